@@ -1,0 +1,19 @@
+-- The laws of the format: which sheets are accepted, and how they are written.
+pub mod Tests
+pub mod Rows
+pub mod FirstMet
+pub mod Condition
+pub mod Sections
+pub mod Places
+pub mod Table
+pub mod Checked
+pub mod Accepted
+pub mod Order
+pub mod Listed
+pub mod EncodeSpan
+pub mod EncodeNumber
+pub mod EncodeRecord
+pub mod EncodeSection
+pub mod EncodeRead
+pub mod EncodePlaces
+pub mod EncodeBytes

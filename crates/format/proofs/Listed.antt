@@ -1,0 +1,77 @@
+-- A list given by what stands at each number below its length, and the bytes of records of one size in a row. Assumes nothing.
+use mathlib.Core.List.{List, [], _∷_, _++_, append-assoc, List·Memᴰ, List·Memᴰ·head, List·Memᴰ·tail, List·Memᴰ·not-nil, List·Memᴰ·append-cases, List·Memᴰ·eq-of-singleton}
+use mathlib.Core.Logic.{_⊎_, inl, inr}
+use mathlib.Core.Path.{_≡_, refl, sym, _∙_, subst}
+use Prim.Native.Nat.{ℕ, zero, suc, _+_, _*_, _<_}
+use native.Mathlib.Nat.{le-of-suc-le-suc, eq-or-lt-of-le, not-suc-le-zero, le-step, le-refl}
+use native.Mathlib.Numerals.{add-one}
+use native.Mathlib.Omega.{arith}
+use lib.ListN.{length, getD, length-append, List·getD-append}
+use lib.Seq.{getD-append-add, getD-at, ext-getD}
+use Rattle.sheet.specs.Enumerate.{each}
+use Rattle.format.specs.Sheet.{listed}
+use Rattle.format.specs.Encode.{allBytes}
+
+module _ {ℓ} {A : Type ℓ} where
+  pub length-listed : (n : ℕ) (f : ℕ → A) → length (listed n f) ≡ n
+  unfolding each
+  length-listed zero f = refl
+  length-listed (suc n) f = length-append (listed n f) (f n ∷ []) ∙ rw (length-listed n f) (add-one n)
+
+  pub getD-listed : (n : ℕ) (f : ℕ → A) (i : ℕ) (d : A) → i < n → getD (listed n f) i d ≡ f i
+  unfolding each
+  getD-listed zero f i d h = absurd (not-suc-le-zero h)
+  getD-listed (suc n) f i d h = at (getD-listed n f i d) (eq-or-lt-of-le (le-of-suc-le-suc h))
+    where
+      at : (i < n → getD (listed n f) i d ≡ f i) → (i ≡ n) ⊎ (i < n) → getD (listed n f ++ f n ∷ []) i d ≡ f i
+      at before (inl e) = rw e (getD-at (listed n f) (f n) [] d n (length-listed n f))
+      at before (inr l) = List·getD-append (listed n f) (f n ∷ []) d i (rw (length-listed n f) l) ∙ before l
+
+  -- a list is the listed one that has its length and its entries
+  pub listed-is : (l : List A) (d : A) (n : ℕ) (f : ℕ → A) → n ≡ length l → ((i : ℕ) → i < length l → f i ≡ getD l i d) → listed n f ≡ l
+  listed-is l d n f e h =
+      ext-getD d (listed n f) l (length-listed n f ∙ e) (λ i b. let b′ = rw (length-listed n f) at b in getD-listed n f i d b′ ∙ h i (rw e at b′))
+
+  pub listed-getD : (l : List A) (d : A) → listed (length l) (λ i. getD l i d) ≡ l
+  listed-getD l d = listed-is l d (length l) (λ i. getD l i d) refl (λ i b. refl)
+
+  pub getD-mem : (l : List A) (i : ℕ) (d : A) → i < length l → List·Memᴰ (getD l i d) l
+  getD-mem [] i d h = absurd (not-suc-le-zero h)
+  getD-mem (x ∷ xs) zero d h = List·Memᴰ·head refl
+  getD-mem (x ∷ xs) (suc i) d h = List·Memᴰ·tail (getD-mem xs i d (le-of-suc-le-suc h))
+
+  -- what holds of each entry as it is given holds of each member
+  pub listed-all {κ} : (P : A → Type κ) (n : ℕ) (f : ℕ → A) → ((i : ℕ) → i < n → P (f i)) → (x : A) → List·Memᴰ x (listed n f) → P x
+  unfolding each
+  listed-all P zero f h x m = absurd (List·Memᴰ·not-nil m)
+  listed-all P (suc n) f h x m = at (listed-all P n f (λ i b. h i (le-step b)) x) (List·Memᴰ·append-cases (listed n f) m)
+    where
+      at : (List·Memᴰ x (listed n f) → P x) → List·Memᴰ x (listed n f) ⊎ List·Memᴰ x (f n ∷ []) → P x
+      at before (inl m) = before m
+      at before (inr m) = subst P (sym (List·Memᴰ·eq-of-singleton m)) (h n (le-refl (suc n)))
+
+  pub allBytes-append : (bytes : A → List ℕ) (rs qs : List A) → allBytes bytes (rs ++ qs) ≡ allBytes bytes rs ++ allBytes bytes qs
+  unfolding allBytes
+  allBytes-append bytes [] qs = refl
+  allBytes-append bytes (r ∷ rs) qs = rw (allBytes-append bytes rs qs) (sym (append-assoc (bytes r) (allBytes bytes rs) (allBytes bytes qs)))
+
+  -- records of one size, the bytes of each in a row
+  module _ (size : ℕ) (bytes : A → List ℕ) (sized : (r : A) → length (bytes r) ≡ size) where
+    pub length-allBytes : (rs : List A) → length (allBytes bytes rs) ≡ size * length rs
+    unfolding allBytes
+    length-allBytes [] = omega arith
+    length-allBytes (r ∷ rs) = length-append (bytes r) (allBytes bytes rs) ∙ omega (arith, sized r, length-allBytes rs)
+
+    -- record i stands at size * i
+    pub getD-allBytes : (rs : List A) (d : A) (i j : ℕ) → i < length rs → j < size → getD (allBytes bytes rs) (size * i + j) 0 ≡ getD (bytes (getD rs i d)) j 0
+    unfolding allBytes
+    getD-allBytes [] d i j h b = absurd (not-suc-le-zero h)
+    getD-allBytes (r ∷ rs) d zero j h b = rw first (List·getD-append (bytes r) (allBytes bytes rs) 0 j (rw (sized r) b))
+      where
+        first : size * 0 + j ≡ j
+        first = omega arith
+    getD-allBytes (r ∷ rs) d (suc i) j h b =
+        rw next (getD-append-add (bytes r) (allBytes bytes rs) (size * i + j) 0 ∙ getD-allBytes rs d i j (le-of-suc-le-suc h) b)
+      where
+        next : size * suc i + j ≡ length (bytes r) + (size * i + j)
+        next = omega (arith, sized r)

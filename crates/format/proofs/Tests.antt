@@ -1,0 +1,107 @@
+-- What the definitions' tests tell: a test passes exactly when its proposition holds, and so is decided. Assumes nothing.
+use borrow.Author.Tests.{ltb-true, leb-true, eqb-true, lt-ltb, le-leb, eq-eqb}
+use lib.Dec.{ltb, leb, eqb}
+use mathlib.Core.Bool.{Bool, true, false, _&&_, _||_, not, true≢false, false≢true}
+use mathlib.Core.List.{List, [], _∷_, List·Memᴰ, List·Memᴰ·head, List·Memᴰ·tail, List·Memᴰ·not-nil, List·Memᴰ·cases-cons}
+use mathlib.Core.Logic.{_↔_, _⊎_, inl, inr, Iff·rfl}
+use mathlib.Core.Path.{_≡_, refl, sym, _∙_, subst}
+use native.Mathlib.Nat.{not-suc-le-zero}
+use native.Mathlib.Omega.{arith}
+use native.Mathlib.Decide.{ℕ-discrete}
+use Prim.Native.Nat.{ℕ, zero, suc, _≤_, _<_}
+use Rattle.sheet.specs.Enumerate.{anyOf, anyBelow}
+
+-- the test passes exactly when the proposition holds
+abbrev pub Tells : Bool → Type 0 → Type 0
+Tells b P = (b ≡ true) ↔ P
+
+-- the other value of the test: the proposition fails
+pub fails : (b : Bool) {P : Type 0} → Tells b P → (b ≡ false) ↔ (P → ⊥)
+fails true t = (λ e. absurd (true≢false e), λ f. absurd (f (t .0 refl)))
+fails false t = (λ e h. false≢true (t .1 h), λ f. refl)
+
+pub decided : (b : Bool) {P : Type 0} → Tells b P → Dec P
+decided true t = yes (t .0 refl)
+decided false t = no (λ h. false≢true (t .1 h))
+
+-- the same test of an equivalent proposition
+pub tells-as : {b : Bool} {P Q : Type 0} → Tells b P → P ↔ Q → Tells b Q
+tells-as t e = (λ h. e .0 (t .0 h), λ q. t .1 (e .1 q))
+
+pub tells-lt : (a b : ℕ) → Tells (ltb a b) (a < b)
+tells-lt a b = (ltb-true a b, lt-ltb a b)
+
+pub tells-le : (a b : ℕ) → Tells (leb a b) (a ≤ b)
+tells-le a b = (leb-true a b, le-leb a b)
+
+pub tells-eq : (a b : ℕ) → Tells (eqb a b) (a ≡ b)
+tells-eq a b = (eqb-true a b, eq-eqb a b)
+
+pub tells-not : (b : Bool) {P : Type 0} → Tells b P → Tells (not b) (P → ⊥)
+tells-not true t = (λ e. absurd (false≢true e), λ f. absurd (f (t .0 refl)))
+tells-not false t = (λ _. fails false t .0 refl, λ _. refl)
+
+pub tells-and : (a b : Bool) {P Q : Type 0} → Tells a P → Tells b Q → Tells (a && b) (P × Q)
+tells-and true b t u = (λ e. (t .0 refl, u .0 e), λ h. u .1 (h .1))
+tells-and false b t u = (λ e. absurd (false≢true e), λ h. t .1 (h .0))
+
+pub tells-or : (a b : Bool) {P Q : Type 0} → Tells a P → Tells b Q → Tells (a || b) (P ⊎ Q)
+tells-or true b t u = (λ e. inl (t .0 refl), λ h. refl)
+tells-or false b {P} {Q} t u = (λ e. inr (u .0 e), other)
+  where
+    other : P ⊎ Q → b ≡ true
+    other (inl p) = absurd (false≢true (t .1 p))
+    other (inr q) = u .1 q
+
+-- some number below the bound
+pub tells-below : (n : ℕ) (f : ℕ → Bool) {P : ℕ → Type 0} → ((i : ℕ) → Tells (f i) (P i)) → Tells (anyBelow n f) ((i : ℕ) × (i < n) × P i)
+unfolding anyBelow
+tells-below zero f t = (λ e. absurd (false≢true e), λ h. absurd (not-suc-le-zero (h .1)))
+tells-below (suc n) f {P} t = tells-as (tells-or (anyBelow n f) (f n) (tells-below n f t) (t n)) (wider, narrower)
+  where
+    wider : ((i : ℕ) × (i < n) × P i) ⊎ P n → (i : ℕ) × (i < suc n) × P i
+    wider (inl h) = (h .0, omega (arith, h .1), h .2)
+    wider (inr p) = (n, omega arith, p)
+
+    narrower : ((i : ℕ) × (i < suc n) × P i) → ((i : ℕ) × (i < n) × P i) ⊎ P n
+    narrower h = last (ℕ-discrete (h .0) n)
+      where
+        last : Dec (h .0 ≡ n) → ((i : ℕ) × (i < n) × P i) ⊎ P n
+        last (yes e) = inr (subst P e (h .2))
+        last (no d) = inl (h .0, omega (arith, h .1), h .2)
+
+-- some entry of a list
+pub tells-of : (f : ℕ → Bool) {P : ℕ → Type 0} → ((x : ℕ) → Tells (f x) (P x)) → (xs : List ℕ) → Tells (anyOf f xs) ((x : ℕ) × List·Memᴰ x xs × P x)
+tells-of f t [] = (λ e. absurd (false≢true e), λ h. absurd (List·Memᴰ·not-nil (h .1)))
+tells-of f {P} t (x ∷ xs) = tells-as (tells-or (f x) (anyOf f xs) (t x) (tells-of f t xs)) (there, here)
+  where
+    there : P x ⊎ ((y : ℕ) × List·Memᴰ y xs × P y) → (y : ℕ) × List·Memᴰ y (x ∷ xs) × P y
+    there (inl p) = (x, List·Memᴰ·head refl, p)
+    there (inr h) = (h .0, List·Memᴰ·tail (h .1), h .2)
+
+    here : ((y : ℕ) × List·Memᴰ y (x ∷ xs) × P y) → P x ⊎ ((y : ℕ) × List·Memᴰ y xs × P y)
+    here h = place (List·Memᴰ·cases-cons (h .1))
+      where
+        place : (h .0 ≡ x) ⊎ List·Memᴰ (h .0) xs → P x ⊎ ((y : ℕ) × List·Memᴰ y xs × P y)
+        place (inl e) = inl (subst P e (h .2))
+        place (inr m) = inr (h .0, m, h .2)
+
+-- The two tests by the values of what they test.
+pub below-true : (n : ℕ) (f : ℕ → Bool) → (anyBelow n f ≡ true) ↔ ((i : ℕ) × (i < n) × (f i ≡ true))
+below-true n f = tells-below n f (λ i. Iff·rfl)
+
+pub below-false : (n : ℕ) (f : ℕ → Bool) → (anyBelow n f ≡ false) ↔ ((i : ℕ) → i < n → f i ≡ false)
+below-false n f = (λ e i h. fails (f i) Iff·rfl .1 (λ t. fails (anyBelow n f) (below-true n f) .0 e (i, h, t)), λ all. fails (anyBelow n f) (below-true n f) .1 (λ h. false≢true (sym (all (h .0) (h .1)) ∙ h .2)))
+
+pub of-true : (f : ℕ → Bool) (xs : List ℕ) → (anyOf f xs ≡ true) ↔ ((x : ℕ) × List·Memᴰ x xs × (f x ≡ true))
+of-true f xs = tells-of f (λ x. Iff·rfl) xs
+
+pub of-false : (f : ℕ → Bool) (xs : List ℕ) → (anyOf f xs ≡ false) ↔ ((x : ℕ) → List·Memᴰ x xs → f x ≡ false)
+of-false f xs = (λ e x m. fails (f x) Iff·rfl .1 (λ t. fails (anyOf f xs) (of-true f xs) .0 e (x, m, t)), λ all. fails (anyOf f xs) (of-true f xs) .1 (λ h. false≢true (sym (all (h .0) (h .1)) ∙ h .2)))
+
+-- Orders that exclude one another.
+pub at-most : {a b : ℕ} → (a < b → ⊥) → b ≤ a
+at-most h = omega arith
+
+pub not-both : {a b : ℕ} → a < b → b ≤ a → ⊥
+not-both h l = omega arith

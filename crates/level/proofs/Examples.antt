@@ -1,0 +1,26 @@
+-- The starred examples of document 01 hold: one theorem for every table of them, by a test that antt computes. Assumes nothing.
+use mathlib.Core.Bool.{Bool, true, _&&_}
+use mathlib.Core.List.{List, [], _∷_, List·Memᴰ·not-nil, List·Memᴰ·cases-cons}
+use mathlib.Core.Logic.{⊎-elim}
+use lib.Dec.{T, eqb, eqb→eq}
+use Rattle.level.specs.Examples.{Example, Hold, gateExamples}
+use Rattle.level.proofs.Computed.{both-left, both-right}
+
+-- what is given and what is stated are the same
+abbrev pub right : Example → Bool
+right e = eqb (e .given) (e .stated)
+
+abbrev pub allRight : List Example → Bool
+allRight [] = true
+allRight (e ∷ l) = right e && allRight l
+
+pub computed : (l : List Example) → T (allRight l) → Hold l
+computed [] t e m = absurd (List·Memᴰ·not-nil m)
+computed (x ∷ l) t e m =
+    ⊎-elim
+    (λ q. rw q (eqb→eq _ _ (both-left (right x) (allRight l) t)))
+    (λ m. computed l (both-right (right x) (allRight l) t) e m)
+    (List·Memᴰ·cases-cons m)
+
+pub gate-examples : Hold gateExamples
+gate-examples = computed gateExamples tt

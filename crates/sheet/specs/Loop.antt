@@ -1,0 +1,41 @@
+-- Document 01, "Modules": a zero-delay loop is a closed chain of one or more modules of delay 0, each output being a used input of the next, memories included.
+-- The outputs in it are the nodes on the loop.
+use mathlib.Core.Bool.{Bool, _&&_, _||_}
+use mathlib.Core.List.{List, List·Memᴰ}
+use mathlib.Core.Path.{_≡_}
+use Prim.Native.Nat.{ℕ, zero, suc, _<_}
+use lib.Dec.{eqb}
+use Rattle.sheet.specs.Enumerate.{anyOf, anyBelow}
+use Rattle.sheet.specs.Layout.{nodeCount, moduleCount, moduleOf}
+use Rattle.sheet.specs.Wiring.{usedInputs}
+
+-- module a's output is a used input of module b, and both have delay 0
+pub record Feeds (s : List ℕ) (a b : ℕ) : Type 0 where
+  pub from : a < moduleCount s
+  pub to : b < moduleCount s
+  pub from-at-once : moduleOf s a .delay ≡ 0
+  pub to-at-once : moduleOf s b .delay ≡ 0
+  pub used : List·Memᴰ (moduleOf s a .output) (usedInputs (moduleOf s b))
+
+pub data Chain (s : List ℕ) : ℕ → ℕ → Type 0 where
+  link : {a b : ℕ} → Feeds s a b → Chain s a b
+  more : {a b c : ℕ} → Feeds s a b → Chain s b c → Chain s a c
+
+-- a node on a zero-delay loop
+pub record OnLoop (s : List ℕ) (v : ℕ) : Type 0 where
+  pub driver : ℕ
+  pub closed : Chain s driver driver
+  pub output : moduleOf s driver .output ≡ v
+
+-- The same as a test. A module of delay 0 has the first node for a used input and the second for its output:
+abbrev pub leads : List ℕ → ℕ → ℕ → Bool
+leads s u v = anyBelow (moduleCount s) (λ m. eqb (moduleOf s m .delay) 0 && eqb (moduleOf s m .output) v && anyOf (eqb u) (usedInputs (moduleOf s m)))
+
+-- the first node leads to the second over nodes below k
+unfoldable pub leadsOver : List ℕ → ℕ → ℕ → ℕ → Bool
+leadsOver s zero u v = leads s u v
+leadsOver s (suc k) u v = leadsOver s k u v || leadsOver s k u k && leadsOver s k k v
+
+-- a node leads to itself
+abbrev pub onLoop : List ℕ → ℕ → Bool
+onLoop s v = leadsOver s (nodeCount s) v v

@@ -1,0 +1,19 @@
+-- Document 01, "Where each refusal is met": an answer is either a finished run with its count, or a refusal with its number, place and count of records written.
+use mathlib.Core.List.{List, [], _∷_}
+use Prim.Native.Nat.{ℕ}
+use Rattle.sheet.specs.declared.Answer.{Answer}
+use Rattle.sheet.specs.declared.Answer.the-variants.{Ran, Refused}
+
+pub data Outcome : Type 0 where
+  finished : ℕ → Outcome
+  refused : ℕ → ℕ → ℕ → Outcome
+
+-- the paper's number and values for each case of the code's answer
+abbrev pub outcomeOf : Answer → Outcome
+outcomeOf (Ran count) = finished count
+outcomeOf (Refused number place count) = refused number place count
+
+-- the three numbers that a caller in another language gets: number (0 for a finished call), place, count
+abbrev pub numbers : Outcome → List ℕ
+numbers (finished count) = 0 ∷ 0 ∷ count ∷ []
+numbers (refused number place count) = number ∷ place ∷ count ∷ []

@@ -1,0 +1,159 @@
+//! Checking a sheet: the proved library gives the plain simulator's answers, and document 01's.
+
+use std::env;
+
+use generate::{by_hand, every, Generator, Size};
+use plain::{worked_run, Event, Module, Sheet, INPUT};
+
+/// Asserts that both give the bytes the same answer, and gives it.
+fn agreed(sheet: &[u8], whence: &str) -> [u32; 3] {
+    let proved = compare::check(sheet);
+    let plain = plain::check(sheet).triple();
+    assert_eq!(
+        proved,
+        plain,
+        "proved, then plain: {whence}: {}",
+        hex(sheet)
+    );
+    proved
+}
+
+fn hex(bytes: &[u8]) -> String {
+    bytes.iter().map(|byte| format!("{byte:02X}")).collect()
+}
+
+/// A number from the environment, for longer runs and other seeds.
+fn setting(name: &str, default: u64) -> u64 {
+    match env::var(name) {
+        Ok(text) => text.parse().unwrap_or_else(|_| panic!("{name}={text}")),
+        Err(_) => default,
+    }
+}
+
+#[test]
+fn generated_sheets() {
+    let seed = setting("TIMING_SEED", 1);
+    let count = setting("TIMING_COUNT", 200_000);
+    let mut generator = Generator::new(seed);
+    let mut met = [0u64; 19];
+    for place in 0..count {
+        let sheet = generator.any();
+        let [number, ..] = agreed(&sheet, &format!("seed {seed}, sheet {place}"));
+        met[number as usize] += 1;
+    }
+    println!("answers by number, 0 for accepted: {met:?}");
+    assert!(met[0] >= 10_000, "seed {seed}: {met:?}");
+    assert_eq!(met[1], 0, "seed {seed}: {met:?}");
+    assert!(met[2..].iter().all(|&n| n >= 100), "seed {seed}: {met:?}");
+}
+
+#[test]
+fn every_truncation() {
+    let mut generator = Generator::new(2);
+    let sizes = [Size::Tiny, Size::Small, Size::Medium, Size::Full];
+    let mut sheets: Vec<Vec<u8>> = sizes.map(|size| generator.valid(size).encode()).to_vec();
+    sheets.push(generator.zero_delay().sheet.encode());
+    sheets.push(worked_run::SHEET.to_vec());
+    for sheet in sheets {
+        for cut in every::truncations(&sheet) {
+            agreed(cut, "cut short");
+        }
+    }
+}
+
+#[test]
+fn every_value_of_every_byte() {
+    let start = by_hand::start().encode();
+    for sheet in [worked_run::SHEET, &start] {
+        for changed in every::single_bytes(sheet) {
+            agreed(&changed, "one byte changed");
+        }
+    }
+}
+
+#[test]
+fn answers_worked_out_by_hand() {
+    for case in by_hand::cases() {
+        assert_eq!(compare::check(&case.sheet), case.answer, "{}", case.name);
+    }
+}
+
+/// An input and a module that drives node 1, which is watched.
+fn one_module(kind: u8, [first, second]: [u8; 2], delay: u16) -> Vec<u8> {
+    let module = Module {
+        kind,
+        parameter: 0,
+        output: 1,
+        first,
+        second,
+        delay,
+    };
+    let mut sheet = plain::read(worked_run::SHEET).expect("it is accepted");
+    sheet.modules = vec![module];
+    sheet.encode()
+}
+
+#[test]
+fn examples_of_document_01() {
+    assert_eq!(compare::check(worked_run::SHEET), [0, 0, 0]);
+    // A buffer; the module's record stands at byte 6.
+    assert_eq!(compare::check(&one_module(1, [0, 0], 10_000)), [0, 0, 0]);
+    assert_eq!(compare::check(&one_module(1, [0, 0], 10_001)), [8, 6, 0]);
+    // An inverter onto its own input.
+    assert_eq!(compare::check(&one_module(2, [1, 0], 1)), [0, 0, 0]);
+    assert_eq!(compare::check(&one_module(2, [1, 0], 0)), [18, 1, 0]);
+}
+
+#[test]
+fn no_bytes_at_all() {
+    assert_eq!(compare::check(&[]), [2, 0, 0]);
+}
+
+#[test]
+fn the_longest_sheets() {
+    let mut generator = Generator::new(3);
+    let mut longest = 0;
+    for _ in 0..20 {
+        let sheet = generator.valid(Size::Full).encode();
+        longest = longest.max(sheet.len());
+        assert_eq!(compare::check(&sheet), [0, 0, 0]);
+        let left_over = [&sheet[..], &[0]].concat();
+        assert_eq!(compare::check(&left_over), [17, sheet.len() as u32, 0]);
+    }
+    // With an input, and so with a drive, there are 255 modules at most.
+    assert_eq!(longest, 8_449);
+}
+
+/// Node 0 is an input and each other node a zero-delay AND of the one before and node 0, but for
+/// node 1, which has the second input and the delay given. The last module is listed first.
+fn chain(second: u8, delay: u16) -> Vec<u8> {
+    let gate = |output: u8| Module {
+        kind: 3,
+        parameter: 0,
+        output,
+        first: output - 1,
+        second: if output == 1 { second } else { 0 },
+        delay: if output == 1 { delay } else { 0 },
+    };
+    let mut nodes = vec![2; 256];
+    nodes[0] = INPUT;
+    let first_event = Event {
+        tick: 0,
+        node: 0,
+        value: 1,
+    };
+    let sheet = Sheet {
+        nodes,
+        modules: (1..=u8::MAX).rev().map(gate).collect(),
+        drive: vec![first_event],
+        watched: vec![255],
+    };
+    sheet.encode()
+}
+
+#[test]
+fn long_zero_delay_chains() {
+    assert_eq!(compare::check(&chain(0, 0)), [0, 0, 0]);
+    assert_eq!(compare::check(&chain(255, 0)), [18, 1, 0]);
+    assert_eq!(compare::check(&chain(255, 1)), [0, 0, 0]);
+}

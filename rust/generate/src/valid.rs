@@ -1,0 +1,226 @@
+//! Sheets that are accepted, of every size up to the limits.
+
+use std::collections::BTreeMap;
+
+use plain::{Event, Module, Sheet, INPUT};
+
+use crate::{byte, Generator};
+
+/// How large a sheet is made.
+#[derive(Debug, Clone, Copy, PartialEq, Eq)]
+pub enum Size {
+    /// 1 to 4 nodes.
+    Tiny,
+    /// 1 to 20 nodes.
+    Small,
+    /// 21 to 100 nodes.
+    Medium,
+    /// 101 to 256 nodes.
+    Large,
+    /// Every section at its limit: 256 nodes, all watched, and either 256 modules and no input or
+    /// 255 modules, one input and 1,024 events.
+    Full,
+}
+
+/// What the modules and events of one sheet have in common, so that sheets differ from each other
+/// more than independent choices would make them.
+struct Style {
+    /// How many modules of a hundred have delay zero.
+    zero_delays: usize,
+    longest_delay: usize,
+    last_tick: usize,
+    /// The values that nodes begin with and events have. Sheets with low and high alone are
+    /// livelier.
+    levels: &'static [u8],
+}
+
+/// Low and high.
+const DEFINED: &[u8] = &[0, 1];
+
+/// All values, low and high more often.
+const MIXED: &[u8] = &[0, 0, 0, 1, 1, 1, 2, 3];
+
+/// Kinds 0 to 9, those that pass changes on more often.
+const KINDS: &[u8] = &[0, 1, 2, 2, 3, 4, 5, 5, 6, 6, 7, 7, 8, 9, 9];
+
+impl Generator {
+    /// A sheet that is accepted.
+    pub fn valid(&mut self, size: Size) -> Sheet {
+        let nodes = self.node_count(size);
+        let modules = self.module_count(size, nodes);
+        let style = self.style(size);
+        // The nodes in some order, the driven ones first. A zero-delay module takes its inputs
+        // from before its output or from nodes that no zero-delay module drives.
+        let order = self.permutation(nodes);
+        let (outputs, inputs) = order.split_at(modules);
+        let sheet = Sheet {
+            nodes: self.node_bytes(nodes, inputs, &style),
+            modules: self.modules(&order, outputs.len(), &style),
+            drive: self.drive(size, inputs, &style),
+            watched: self.watched(size, nodes),
+        };
+        self.reordered(&sheet)
+    }
+
+    fn node_count(&mut self, size: Size) -> usize {
+        match size {
+            Size::Tiny => self.random.between(1, 4),
+            Size::Small => self.random.between(1, 20),
+            Size::Medium => self.random.between(21, 100),
+            Size::Large => self.random.between(101, 256),
+            Size::Full => 256,
+        }
+    }
+
+    fn module_count(&mut self, size: Size, nodes: usize) -> usize {
+        if size == Size::Full {
+            return self.random.between(255, 256);
+        }
+        match self.random.between(0, 9) {
+            0 => 0,
+            1 => nodes,
+            2..=4 => nodes - 1,
+            _ => self.random.between(0, nodes),
+        }
+    }
+
+    fn style(&mut self, size: Size) -> Style {
+        let last_ticks = match size {
+            Size::Full => [20_000, 20_000, 999_999],
+            _ => [8, 200, 999_999],
+        };
+        Style {
+            zero_delays: self.random.pick(&[0, 20, 50, 80, 100]),
+            longest_delay: self.random.pick(&[1, 3, 10, 100, 10_000]),
+            last_tick: self.random.pick(&last_ticks),
+            levels: self.random.pick(&[DEFINED, MIXED]),
+        }
+    }
+
+    fn node_bytes(&mut self, nodes: usize, inputs: &[u8], style: &Style) -> Vec<u8> {
+        let initial = (0..nodes).map(|_| self.random.pick(style.levels));
+        let mut bytes: Vec<u8> = initial.collect();
+        for &input in inputs {
+            bytes[usize::from(input)] = INPUT;
+        }
+        bytes
+    }
+
+    /// Any of the values.
+    pub(crate) fn level(&mut self) -> u8 {
+        self.random.pick(MIXED)
+    }
+
+    fn modules(&mut self, order: &[u8], outputs: usize, style: &Style) -> Vec<Module> {
+        let delays: Vec<u16> = (0..outputs).map(|_| self.delay(style)).collect();
+        (0..outputs)
+            .map(|place| self.module(order, &delays, place))
+            .collect()
+    }
+
+    fn delay(&mut self, style: &Style) -> u16 {
+        let delay = if self.random.chance(style.zero_delays) {
+            0
+        } else if self.random.chance(2) {
+            10_000
+        } else {
+            self.random.between(1, style.longest_delay)
+        };
+        u16::try_from(delay).expect("the delay has two bytes")
+    }
+
+    /// The module that drives the node at `place` in the order.
+    fn module(&mut self, order: &[u8], delays: &[u16], place: usize) -> Module {
+        let kind = self.random.pick(KINDS);
+        let mut module = Module {
+            kind,
+            parameter: self.parameter(kind),
+            output: order[place],
+            first: 0,
+            second: 0,
+            delay: delays[place],
+        };
+        let used = module.input_count();
+        for input in [&mut module.first, &mut module.second]
+            .into_iter()
+            .take(used)
+        {
+            match self.input(order, delays, place) {
+                Some(node) => *input = node,
+                // Nothing stands before it: a delay makes any input good.
+                None => module.delay = 1,
+            }
+        }
+        module
+    }
+
+    /// A parameter that the kind allows.
+    pub(crate) fn parameter(&mut self, kind: u8) -> u8 {
+        match kind {
+            0 => self.level(),
+            9 => byte(self.random.between(0, 15)),
+            _ => 0,
+        }
+    }
+
+    /// An input for the module at `place`, if one is found that closes no zero-delay loop.
+    fn input(&mut self, order: &[u8], delays: &[u16], place: usize) -> Option<u8> {
+        // Chains grow long if a module often reads the one just before.
+        if place > 0 && self.random.chance(30) {
+            return Some(order[place - 1]);
+        }
+        let good = |from: usize| {
+            let from_zero_delay = delays.get(from) == Some(&0);
+            delays[place] > 0 || !from_zero_delay || from < place
+        };
+        let tries = [(); 8].map(|()| self.random.place(order.len()));
+        let found = tries.into_iter().chain(0..place).find(|&from| good(from));
+        found.map(|from| order[from])
+    }
+
+    fn drive(&mut self, size: Size, inputs: &[u8], style: &Style) -> Vec<Event> {
+        let mut events = BTreeMap::new();
+        for &input in inputs {
+            events.insert((0, input), self.random.pick(style.levels));
+        }
+        if !inputs.is_empty() {
+            let wanted = self.event_count(size, inputs.len());
+            for _ in 0..4 * wanted {
+                if events.len() < wanted {
+                    let key = (self.tick(style), self.random.pick(inputs));
+                    events.insert(key, self.random.pick(style.levels));
+                }
+            }
+        }
+        let event = |((tick, node), value)| Event { tick, node, value };
+        events.into_iter().map(event).collect()
+    }
+
+    fn tick(&mut self, style: &Style) -> u32 {
+        let tick = if self.random.chance(1) {
+            999_999
+        } else {
+            self.random.between(0, style.last_tick)
+        };
+        u32::try_from(tick).expect("the tick has four bytes")
+    }
+
+    fn event_count(&mut self, size: Size, inputs: usize) -> usize {
+        match size {
+            Size::Tiny | Size::Small => inputs + self.random.pick(&[0, 1, 5, 20]),
+            Size::Medium => inputs + self.random.between(0, 200),
+            Size::Large => self.random.between(inputs, 1_024),
+            Size::Full => 1_024,
+        }
+    }
+
+    /// Some of the nodes, rising; now and then all or none.
+    fn watched(&mut self, size: Size, nodes: usize) -> Vec<u8> {
+        let percent = match size {
+            Size::Full => 100,
+            _ => self.random.pick(&[0, 40, 80, 100, 100]),
+        };
+        let all = (0..nodes).map(byte);
+        all.filter(|_| self.random.chance(percent)).collect()
+    }
+}

@@ -1,0 +1,204 @@
+//! Zero-delay networks whose loops are known from how they were made.
+
+use plain::{renumbered, Event, Module, Sheet, INPUT};
+
+use crate::{byte, Generator};
+
+/// A sheet that is good but for its zero-delay loops, if it has any.
+pub struct ZeroDelay {
+    pub sheet: Sheet,
+    /// The nodes on its loops.
+    pub on_loops: Vec<u8>,
+}
+
+/// A network as it grows. Every part reads only nodes of the parts before it and its own, but for
+/// the delayed modules, which read anything at the end.
+#[derive(Default)]
+struct Network {
+    nodes: Vec<u8>,
+    modules: Vec<Module>,
+    on_loops: Vec<u8>,
+}
+
+impl Network {
+    fn add_node(&mut self, byte_of_node: u8) -> u8 {
+        self.nodes.push(byte_of_node);
+        byte(self.nodes.len() - 1)
+    }
+}
+
+impl Generator {
+    /// Rings of zero-delay modules with modules before, between and after them, and decoys:
+    /// circles that a delay interrupts. Now and then the network is large, up to 215 nodes.
+    pub fn zero_delay(&mut self) -> ZeroDelay {
+        let rings = self.random.pick(&[0, 0, 1, 1, 2, 3]);
+        let longest = if self.random.chance(5) { 30 } else { 4 };
+        let mut network = self.sources();
+        for _ in 0..rings {
+            self.add_gates(&mut network, longest);
+            self.add_ring(&mut network, longest);
+        }
+        self.add_gates(&mut network, longest);
+        self.read_anything(&mut network);
+        self.finish(network)
+    }
+
+    /// No loop, but one seems to be there for whoever takes an unused input's 0 for node 0: the
+    /// last module of a zero-delay chain drives node 0.
+    pub fn closed_by_unused_inputs(&mut self) -> ZeroDelay {
+        let mut network = self.sources();
+        for _ in 0..self.random.between(1, 5) {
+            let before = byte(network.nodes.len() - 1);
+            let kind = self.random.pick(&[0, 1, 2]);
+            self.add_gate(&mut network, kind, before);
+        }
+        let last = network.nodes.len() - 1;
+        let mut to: Vec<u8> = (0..network.nodes.len()).map(byte).collect();
+        to.swap(0, last);
+        self.renumber(network, &to)
+    }
+
+    /// Zero-delay modules that read any nodes at all.
+    pub fn tangle(&mut self) -> Sheet {
+        let mut network = Network::default();
+        let nodes = self.random.between(2, 12);
+        let inputs = self.random.between(1, nodes - 1);
+        for _ in 0..inputs {
+            network.add_node(INPUT);
+        }
+        for _ in inputs..nodes {
+            let kind = byte(self.random.between(0, 9));
+            self.add_gate(&mut network, kind, 0);
+        }
+        for module in &mut network.modules {
+            module.delay = self.random.pick(&[0, 0, 0, 0, 1]);
+            self.read_any_of(module, nodes);
+        }
+        self.finish(network).sheet
+    }
+
+    /// Inputs and delayed modules: nodes that no zero-delay module drives. What the delayed ones
+    /// read is settled at the end.
+    fn sources(&mut self) -> Network {
+        let mut network = Network::default();
+        for _ in 0..self.random.between(1, 3) {
+            network.add_node(INPUT);
+        }
+        for _ in 0..self.random.between(0, 2) {
+            let kind = byte(self.random.between(0, 9));
+            self.add_gate(&mut network, kind, 0);
+        }
+        for module in &mut network.modules {
+            module.delay = self.random.pick(&[1, 2, 10_000]);
+        }
+        network
+    }
+
+    /// A few zero-delay modules that read what stands before them.
+    fn add_gates(&mut self, network: &mut Network, most: usize) {
+        for _ in 0..self.random.between(0, most) {
+            let kind = byte(self.random.between(0, 9));
+            let before = byte(self.random.place(network.nodes.len()));
+            self.add_gate(network, kind, before);
+        }
+    }
+
+    /// A zero-delay module that reads `before` at one used input, and some node before itself at
+    /// the other.
+    fn add_gate(&mut self, network: &mut Network, kind: u8, before: u8) -> u8 {
+        let other = byte(self.random.place(network.nodes.len()));
+        let mut module = Module {
+            kind,
+            parameter: self.parameter(kind),
+            output: network.add_node(self.level()),
+            first: 0,
+            second: 0,
+            delay: 0,
+        };
+        self.read(&mut module, before, other);
+        network.modules.push(module);
+        module.output
+    }
+
+    /// Sets the used inputs to two nodes, either way round.
+    fn read(&mut self, module: &mut Module, one: u8, other: u8) {
+        let swapped = self.random.chance(50);
+        match (module.input_count(), swapped) {
+            (0, _) => {}
+            (1, _) => module.first = one,
+            (_, false) => (module.first, module.second) = (one, other),
+            (_, true) => (module.first, module.second) = (other, one),
+        }
+    }
+
+    fn read_any_of(&mut self, module: &mut Module, nodes: usize) {
+        let one = byte(self.random.place(nodes));
+        let other = byte(self.random.place(nodes));
+        self.read(module, one, other);
+    }
+
+    /// A closed chain of zero-delay modules, one of them perhaps on its own.
+    fn add_ring(&mut self, network: &mut Network, most: usize) {
+        let start = network.nodes.len();
+        for _ in 0..self.random.between(1, most) {
+            let before = byte(network.nodes.len() - 1);
+            let kind = byte(self.random.between(1, 9));
+            let output = self.add_gate(network, kind, before);
+            network.on_loops.push(output);
+        }
+        // The first module reads the last one's output instead of what stood before the ring.
+        let last = byte(network.nodes.len() - 1);
+        let other = byte(self.random.place(start));
+        let module = network
+            .modules
+            .iter_mut()
+            .find(|module| usize::from(module.output) == start)
+            .expect("the ring has a first module");
+        self.read(module, last, other);
+    }
+
+    /// Lets the delayed modules read any nodes, later ones and their own output too.
+    fn read_anything(&mut self, network: &mut Network) {
+        let nodes = network.nodes.len();
+        for module in &mut network.modules {
+            if module.delay > 0 {
+                self.read_any_of(module, nodes);
+            }
+        }
+    }
+
+    /// The network as a sheet, its nodes numbered anyhow.
+    fn finish(&mut self, network: Network) -> ZeroDelay {
+        let to = self.permutation(network.nodes.len());
+        self.renumber(network, &to)
+    }
+
+    fn renumber(&mut self, network: Network, to: &[u8]) -> ZeroDelay {
+        let mut sheet = Sheet {
+            nodes: network.nodes,
+            modules: network.modules,
+            drive: Vec::new(),
+            watched: Vec::new(),
+        };
+        sheet.drive = self.first_events(&sheet);
+        sheet.watched = sheet.node_numbers().collect();
+        let order = self.order(sheet.modules.len());
+        let numbers = network.on_loops.iter().map(|&node| to[usize::from(node)]);
+        ZeroDelay {
+            sheet: renumbered(&sheet, to, &order),
+            on_loops: numbers.collect(),
+        }
+    }
+
+    /// An event at tick 0 for each input.
+    fn first_events(&mut self, sheet: &Sheet) -> Vec<Event> {
+        let numbered = sheet.node_numbers().zip(&sheet.nodes);
+        let inputs = numbered.filter(|(_, &byte)| byte == INPUT);
+        let event = |(node, _)| Event {
+            tick: 0,
+            node,
+            value: self.level(),
+        };
+        inputs.map(event).collect()
+    }
+}

@@ -1,0 +1,183 @@
+//! The plain simulator held against document 01's statements, over many valid sheets.
+
+use generate::{Generator, Size};
+use plain::{in_set, renumbered, renumbered_listing, rule, Answer, Event, Module, Sheet};
+
+/// The byte that stands where nothing has been written.
+const UNTOUCHED: u8 = 0xA5;
+
+/// Room for every record of the sheets and horizons below.
+const AMPLE: usize = 6 * 256 * 150;
+
+/// Calls `judge` with sheets of several sizes, a horizon that runs, and the generator.
+fn over_valid_sheets(seed: u64, mut judge: impl FnMut(&mut Generator, &Sheet, u32)) {
+    let mut generator = Generator::new(seed);
+    for round in 0..1_500 {
+        let size = match round % 100 {
+            0 => Size::Large,
+            1..=4 => Size::Medium,
+            5..=20 => Size::Tiny,
+            _ => Size::Small,
+        };
+        let sheet = generator.valid(size);
+        let horizon = generator.horizon().clamp(1, 150);
+        judge(&mut generator, &sheet, horizon);
+    }
+}
+
+/// A run over a buffer of `length` untouched bytes, with the buffer as it is left.
+fn run(sheet: &Sheet, horizon: u32, length: usize) -> ([u32; 3], Vec<u8>) {
+    let mut listing = vec![UNTOUCHED; length];
+    let answer = plain::run(&sheet.encode(), horizon, &mut listing);
+    (answer.triple(), listing)
+}
+
+/// The records that the run of a sheet to the horizon lists, and nothing after them.
+fn full_listing(sheet: &Sheet, horizon: u32) -> Vec<u8> {
+    let (answer, mut listing) = run(sheet, horizon, AMPLE);
+    let [0, 0, count] = answer else {
+        panic!("refused {answer:?}: {sheet:?}");
+    };
+    listing.truncate(6 * count as usize);
+    listing
+}
+
+fn records(listing: &[u8]) -> Vec<(u32, u8, u8)> {
+    let (records, _) = listing.as_chunks();
+    let record = |&[b0, b1, b2, b3, node, value]: &[u8; 6]| {
+        (u32::from_le_bytes([b0, b1, b2, b3]), node, value)
+    };
+    records.iter().map(record).collect()
+}
+
+/// The cell that a set of timelines must have by the node's equation.
+fn by_equation(sheet: &Sheet, cells: &[Vec<u8>], node: u8, tick: usize) -> u8 {
+    let Some(module) = sheet.driver(node) else {
+        return driven(&sheet.drive, node, tick);
+    };
+    let initial = sheet.nodes[usize::from(node)];
+    if tick < usize::from(module.delay) {
+        return initial;
+    }
+    let seen = tick - usize::from(module.delay);
+    let first = &cells[usize::from(module.first)];
+    let second = &cells[usize::from(module.second)];
+    if module.kind == 9 {
+        let mut held = (0..=seen).filter(|&u| in_set(module.parameter, second[u]));
+        held.next_back().map_or(initial, |u| first[u])
+    } else {
+        rule(module.kind, module.parameter, first[seen], second[seen])
+    }
+}
+
+fn driven(drive: &[Event], node: u8, tick: usize) -> u8 {
+    let begun = |event: &&Event| event.node == node && event.tick as usize <= tick;
+    let latest = drive.iter().filter(begun).max_by_key(|event| event.tick);
+    latest.expect("an event at tick 0").value
+}
+
+#[test]
+fn cells_satisfy_every_equation() {
+    over_valid_sheets(20, |_, sheet, horizon| {
+        let cells = plain::cells(sheet, horizon);
+        assert_eq!(cells.len(), sheet.nodes.len());
+        for (node, timeline) in sheet.node_numbers().zip(&cells) {
+            assert_eq!(timeline.len(), horizon as usize);
+            for (tick, &cell) in timeline.iter().enumerate() {
+                let expected = by_equation(sheet, &cells, node, tick);
+                assert_eq!(cell, expected, "node {node}, tick {tick}: {sheet:?}");
+            }
+        }
+    });
+}
+
+#[test]
+fn pending_changes_as_stated() {
+    over_valid_sheets(21, |_, sheet, horizon| {
+        let cells = plain::cells(sheet, horizon);
+        let pending = plain::pending(sheet, &cells);
+        assert_eq!(pending.len(), horizon as usize);
+        for (t, &count) in pending.iter().enumerate() {
+            let of_module = |module: &Module| {
+                let output = &cells[usize::from(module.output)];
+                let last = (t + usize::from(module.delay)).min(horizon as usize - 1);
+                (t + 1..=last)
+                    .filter(|&u| output[u] != output[u - 1])
+                    .count()
+            };
+            let expected: usize = sheet.modules.iter().map(of_module).sum();
+            assert_eq!(count, expected, "after tick {t}: {sheet:?}");
+        }
+    });
+}
+
+#[test]
+fn the_listing_gives_the_watched_cells_back() {
+    over_valid_sheets(22, |_, sheet, horizon| {
+        let cells = plain::cells(sheet, horizon);
+        let records = records(&full_listing(sheet, horizon));
+        let keys: Vec<(u32, u8)> = records
+            .iter()
+            .map(|&(tick, node, _)| (tick, node))
+            .collect();
+        assert!(keys.is_sorted_by(|one, next| one < next), "{sheet:?}");
+        for &node in &sheet.watched {
+            let mut own = records.iter().filter(|record| record.1 == node).peekable();
+            let mut value = None;
+            for (tick, &cell) in (0..).zip(&cells[usize::from(node)]) {
+                if let Some(&(_, _, new)) = own.next_if(|record| record.0 == tick) {
+                    assert_ne!(value, Some(new), "no change at {tick}: {sheet:?}");
+                    value = Some(new);
+                }
+                assert_eq!(value, Some(cell), "node {node}, tick {tick}: {sheet:?}");
+            }
+            assert_eq!(own.next(), None);
+        }
+        assert!(records
+            .iter()
+            .all(|record| sheet.watched.contains(&record.1)));
+    });
+}
+
+#[test]
+fn a_short_buffer_takes_whole_ticks() {
+    let mut refused = 0;
+    over_valid_sheets(23, |generator, sheet, horizon| {
+        let listing = full_listing(sheet, horizon);
+        let length = generator.buffer_length();
+        let (answer, left) = run(sheet, horizon, length);
+        let all = records(&listing);
+        // The first record without room names the tick; that tick's records are left out.
+        let expected = match all.get(length / 6) {
+            None => [0, 0, all.len() as u32],
+            Some(&(tick, ..)) => {
+                refused += 1;
+                let earlier = all.iter().filter(|record| record.0 < tick).count();
+                [19, tick, earlier as u32]
+            }
+        };
+        assert_eq!(answer, expected, "{length} bytes: {sheet:?}");
+        let (written, rest) = left.split_at(6 * answer[2] as usize);
+        assert_eq!(written, &listing[..written.len()]);
+        assert!(rest.iter().all(|&byte| byte == UNTOUCHED));
+    });
+    assert!(refused >= 100, "{refused} were refused");
+}
+
+#[test]
+fn renumbered_sheets_run_alike() {
+    over_valid_sheets(24, |generator, sheet, horizon| {
+        let to = generator.permutation(sheet.nodes.len());
+        let order = generator.order(sheet.modules.len());
+        let other = renumbered(sheet, &to, &order);
+        assert_eq!(plain::check(&other.encode()), Answer::Ran { count: 0 });
+        let (ours, theirs) = (plain::cells(sheet, horizon), plain::cells(&other, horizon));
+        for (node, cells) in sheet.node_numbers().zip(&ours) {
+            let number = to[usize::from(node)];
+            assert_eq!(cells, &theirs[usize::from(number)], "{sheet:?}");
+        }
+        let listing = full_listing(sheet, horizon);
+        let expected = renumbered_listing(&listing, &to);
+        assert_eq!(full_listing(&other, horizon), expected, "{sheet:?}");
+    });
+}

@@ -1,0 +1,32 @@
+//! The plain cell-by-cell simulator of timing networks.
+//!
+//! Written from document 01 alone and kept literal rather than fast, so that it can be the
+//! yardstick for the proved library: the whole history of every node is kept, a memory searches
+//! back through it, and pending changes are counted from differences of cells.
+
+#![forbid(unsafe_code)]
+
+mod answer;
+mod cells;
+mod gate;
+mod level;
+mod listing;
+mod pending;
+mod program;
+mod read;
+mod reader;
+mod renumber;
+mod sheet;
+pub mod worked_run;
+mod zero_delay;
+
+pub use answer::Answer;
+pub use cells::cells;
+pub use gate::{in_set, rule};
+pub use level::{HIGH, LOW, NONE, UNKNOWN};
+pub use listing::run;
+pub use pending::pending;
+pub use program::program;
+pub use read::{check, read};
+pub use renumber::{renumbered, renumbered_listing};
+pub use sheet::{Event, Module, Sheet, INPUT};

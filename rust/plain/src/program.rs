@@ -1,0 +1,42 @@
+//! What the program prints.
+
+use crate::answer::Answer;
+use crate::level::symbol;
+use crate::listing::run;
+use crate::sheet::Event;
+
+/// The bytes that the program lends for the listing.
+const LENT: usize = 60_000;
+
+/// One byte more than the longest sheet, so that bytes left over are seen.
+const READ_AT_MOST: usize = 8_457;
+
+/// The bytes that the program prints for this standard input.
+pub fn program(input: &[u8]) -> Vec<u8> {
+    let (horizon, sheet) = parts(input);
+    let mut listing = vec![0; LENT];
+    let printed = match run(sheet, horizon, &mut listing) {
+        Answer::Ran { count } => records(&listing, count),
+        Answer::Refused { number, place, .. } => format!("refused {number} {place}\n"),
+    };
+    printed.into_bytes()
+}
+
+/// The horizon, its missing bytes being 0, and the sheet.
+fn parts(input: &[u8]) -> (u32, &[u8]) {
+    let (first, rest) = input.split_at(input.len().min(4));
+    let mut horizon = [0; 4];
+    horizon[..first.len()].copy_from_slice(first);
+    let sheet = &rest[..rest.len().min(READ_AT_MOST)];
+    (u32::from_le_bytes(horizon), sheet)
+}
+
+fn records(listing: &[u8], count: u32) -> String {
+    let mut printed = format!("records {count}\n");
+    let (records, _) = listing.as_chunks();
+    for &record in &records[..count as usize] {
+        let Event { tick, node, value } = Event::from_bytes(record);
+        printed += &format!("{tick} {node} {}\n", symbol(value));
+    }
+    printed
+}

@@ -1,0 +1,59 @@
+//! Renumbering a sheet and a listing.
+
+use crate::sheet::{Event, Module, Sheet};
+
+/// The sheet with its nodes renumbered, its modules listed in another order, and its drive and
+/// watched nodes sorted again. `to[v]` is the new number of node v; the module at place i of the
+/// result is the one at place `order[i]` of the sheet.
+pub fn renumbered(sheet: &Sheet, to: &[u8], order: &[usize]) -> Sheet {
+    let mut nodes = sheet.nodes.clone();
+    for (&byte, &new) in sheet.nodes.iter().zip(to) {
+        nodes[usize::from(new)] = byte;
+    }
+    let modules = order.iter().map(|&i| module(&sheet.modules[i], to));
+    let mut watched: Vec<u8> = sheet.watched.iter().map(|&node| number(node, to)).collect();
+    watched.sort_unstable();
+    Sheet {
+        nodes,
+        modules: modules.collect(),
+        drive: events(sheet.drive.iter().copied(), to),
+        watched,
+    }
+}
+
+/// The listing with only its node numbers changed, sorted by tick, then by node.
+pub fn renumbered_listing(listing: &[u8], to: &[u8]) -> Vec<u8> {
+    let (records, rest) = listing.as_chunks();
+    assert!(rest.is_empty(), "a listing is made of whole records");
+    let records = records.iter().map(|&record| Event::from_bytes(record));
+    events(records, to)
+        .into_iter()
+        .flat_map(Event::to_bytes)
+        .collect()
+}
+
+fn number(node: u8, to: &[u8]) -> u8 {
+    to[usize::from(node)]
+}
+
+fn module(module: &Module, to: &[u8]) -> Module {
+    let used = module.input_count();
+    let input = |place: usize, node: u8| if place < used { number(node, to) } else { node };
+    Module {
+        output: number(module.output, to),
+        first: input(0, module.first),
+        second: input(1, module.second),
+        ..*module
+    }
+}
+
+fn events(events: impl Iterator<Item = Event>, to: &[u8]) -> Vec<Event> {
+    let mut events: Vec<Event> = events
+        .map(|event| Event {
+            node: number(event.node, to),
+            ..event
+        })
+        .collect();
+    events.sort_unstable_by_key(Event::key);
+    events
+}

@@ -1,0 +1,148 @@
+//! The sheet and its records.
+
+/// The byte of a node that is an input.
+pub const INPUT: u8 = 4;
+
+/// A network sheet, its four sections in the order of their bytes.
+#[derive(Debug, Clone, Default, PartialEq, Eq)]
+pub struct Sheet {
+    /// For each node the initial value 0 to 3, or [`INPUT`].
+    pub nodes: Vec<u8>,
+    pub modules: Vec<Module>,
+    pub drive: Vec<Event>,
+    pub watched: Vec<u8>,
+}
+
+#[derive(Debug, Clone, Copy, PartialEq, Eq)]
+pub struct Module {
+    pub kind: u8,
+    pub parameter: u8,
+    pub output: u8,
+    pub first: u8,
+    pub second: u8,
+    pub delay: u16,
+}
+
+/// A record of the drive, and of a listing.
+#[derive(Debug, Clone, Copy, PartialEq, Eq)]
+pub struct Event {
+    pub tick: u32,
+    pub node: u8,
+    pub value: u8,
+}
+
+impl Sheet {
+    /// The sheet's bytes, whether or not they would be accepted.
+    pub fn encode(&self) -> Vec<u8> {
+        let mut bytes = Vec::new();
+        bytes.extend(count(self.nodes.len()));
+        bytes.extend(&self.nodes);
+        bytes.extend(count(self.modules.len()));
+        bytes.extend(self.modules.iter().flat_map(|module| module.to_bytes()));
+        bytes.extend(count(self.drive.len()));
+        bytes.extend(self.drive.iter().flat_map(|event| event.to_bytes()));
+        bytes.extend(count(self.watched.len()));
+        bytes.extend(&self.watched);
+        bytes
+    }
+
+    /// The first module listed that drives `node`; an input has none.
+    pub fn driver(&self, node: u8) -> Option<&Module> {
+        self.modules.iter().find(|module| module.output == node)
+    }
+
+    /// All node numbers, in order.
+    pub fn node_numbers(&self) -> impl Iterator<Item = u8> {
+        (0..=u8::MAX).take(self.nodes.len())
+    }
+
+    /// Whether `node` is one of the sheet's nodes.
+    pub(crate) fn has_node(&self, node: u8) -> bool {
+        usize::from(node) < self.nodes.len()
+    }
+
+    /// Whether `node` is an input of the sheet.
+    pub(crate) fn has_input(&self, node: u8) -> bool {
+        self.has_node(node) && self.driver(node).is_none()
+    }
+}
+
+impl Module {
+    /// How many inputs the kind has.
+    pub fn input_count(&self) -> usize {
+        match self.kind {
+            0 => 0,
+            1 | 2 => 1,
+            _ => 2,
+        }
+    }
+
+    /// The inputs that the kind has.
+    pub fn used_inputs(&self) -> impl Iterator<Item = u8> {
+        [self.first, self.second]
+            .into_iter()
+            .take(self.input_count())
+    }
+
+    /// The inputs that the kind lacks.
+    pub fn unused_inputs(&self) -> impl Iterator<Item = u8> {
+        [self.first, self.second]
+            .into_iter()
+            .skip(self.input_count())
+    }
+
+    pub(crate) fn from_bytes(bytes: [u8; 7]) -> Module {
+        let [kind, parameter, output, first, second, low, high] = bytes;
+        Module {
+            kind,
+            parameter,
+            output,
+            first,
+            second,
+            delay: u16::from_le_bytes([low, high]),
+        }
+    }
+
+    fn to_bytes(self) -> [u8; 7] {
+        let [low, high] = self.delay.to_le_bytes();
+        [
+            self.kind,
+            self.parameter,
+            self.output,
+            self.first,
+            self.second,
+            low,
+            high,
+        ]
+    }
+}
+
+impl Event {
+    /// The bytes of one record.
+    pub(crate) const BYTES: usize = 6;
+
+    pub(crate) fn from_bytes(bytes: [u8; Event::BYTES]) -> Event {
+        let [b0, b1, b2, b3, node, value] = bytes;
+        Event {
+            tick: u32::from_le_bytes([b0, b1, b2, b3]),
+            node,
+            value,
+        }
+    }
+
+    pub(crate) fn to_bytes(self) -> [u8; Event::BYTES] {
+        let [b0, b1, b2, b3] = self.tick.to_le_bytes();
+        [b0, b1, b2, b3, self.node, self.value]
+    }
+
+    /// Records stand in order by tick, then by node.
+    pub(crate) fn key(&self) -> (u32, u8) {
+        (self.tick, self.node)
+    }
+}
+
+fn count(records: usize) -> [u8; 2] {
+    u16::try_from(records)
+        .expect("a count has two bytes")
+        .to_le_bytes()
+}

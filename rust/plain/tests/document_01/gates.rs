@@ -1,0 +1,78 @@
+//! The rules of the kinds.
+
+use crate::support::*;
+use plain::{rule, HIGH, LOW, NONE, UNKNOWN};
+
+#[test]
+fn examples_of_document_01() {
+    assert_eq!(rule(NAND, 0, LOW, NONE), HIGH);
+    assert_eq!(rule(AND, 0, HIGH, NONE), UNKNOWN);
+    assert_eq!(rule(OR, 0, HIGH, NONE), HIGH);
+    assert_eq!(rule(XOR, 0, UNKNOWN, UNKNOWN), UNKNOWN);
+    assert_eq!(rule(INVERTER, 0, NONE, LOW), UNKNOWN);
+    for value in [LOW, HIGH, UNKNOWN, NONE] {
+        assert_eq!(rule(CLOCKED_INVERTER, 0, value, UNKNOWN), NONE);
+    }
+}
+
+/// The rules of two inputs written out: a row for each first input, a column for each second.
+const TABLES: [(u8, [[u8; 4]; 4]); 6] = [
+    (
+        AND,
+        [[0, 0, 0, 0], [0, 1, 2, 2], [0, 2, 2, 2], [0, 2, 2, 2]],
+    ),
+    (OR, [[0, 1, 2, 2], [1, 1, 1, 1], [2, 1, 2, 2], [2, 1, 2, 2]]),
+    (
+        XOR,
+        [[0, 1, 2, 2], [1, 0, 2, 2], [2, 2, 2, 2], [2, 2, 2, 2]],
+    ),
+    (
+        NAND,
+        [[1, 1, 1, 1], [1, 0, 2, 2], [1, 2, 2, 2], [1, 2, 2, 2]],
+    ),
+    (
+        NOR,
+        [[1, 0, 2, 2], [0, 0, 0, 0], [2, 0, 2, 2], [2, 0, 2, 2]],
+    ),
+    (
+        CLOCKED_INVERTER,
+        [[3, 1, 3, 3], [3, 0, 3, 3], [3, 2, 3, 3], [3, 2, 3, 3]],
+    ),
+];
+
+#[test]
+fn two_inputs_as_tables() {
+    for (kind, table) in TABLES {
+        for (first, row) in (0..).zip(table) {
+            for (second, expected) in (0..).zip(row) {
+                let value = rule(kind, 0, first, second);
+                assert_eq!(value, expected, "kind {kind} of {first} and {second}");
+            }
+        }
+    }
+}
+
+#[test]
+fn one_input_and_none() {
+    for other in 0..4 {
+        let of_each = |kind| [0, 1, 2, 3].map(|value| rule(kind, 0, value, other));
+        assert_eq!(of_each(BUFFER), [0, 1, 2, 2]);
+        assert_eq!(of_each(INVERTER), [1, 0, 2, 2]);
+        for value in 0..4 {
+            assert_eq!(rule(CONSTANT, value, other, other), value);
+        }
+    }
+}
+
+#[test]
+fn sets_of_values() {
+    for set in 0..16 {
+        let members = [0, 1, 2, 3].map(|value| plain::in_set(set, value));
+        let weights = members.iter().zip([1, 2, 4, 8]);
+        let sum: u8 = weights
+            .filter(|(&is, _)| is)
+            .map(|(_, weight)| weight)
+            .sum();
+        assert_eq!(sum, set);
+    }
+}

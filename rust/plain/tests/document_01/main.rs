@@ -1,0 +1,11 @@
+//! The plain simulator against document 01: its examples, and what it says of each part.
+
+mod drive;
+mod examples;
+mod faults;
+mod gates;
+mod memory;
+mod program;
+mod refusals;
+mod renumbering;
+mod support;
