@@ -1,24 +1,23 @@
 -- A check finishes exactly on the sheets that are accepted: no condition of the refusals' table is met.
--- Assumes that the test for a zero-delay loop tells one where every output is a node.
-use lib.Dec.{T}
+-- Assumes nothing.
 use lib.ListN.{length}
-use mathlib.Core.Bool.{Bool, true, false}
 use mathlib.Core.List.{List}
 use mathlib.Core.Logic.{_⊎_, inl, inr, Dec·not-not}
-use mathlib.Core.Path.{_≡_, refl, sym, subst}
+use mathlib.Core.Path.{_≡_, sym, subst}
 use native.Mathlib.Decide.{ℕ-discrete}
-use native.Mathlib.Nat.{lt-of-not-le, le-antisymm, le-refl, le-of-eq, le-trans}
+use native.Mathlib.Nat.{lt-of-not-le, not-le-of-lt, le-antisymm, le-refl, le-of-eq, le-trans}
 use native.Mathlib.Omega.{arith}
 use Prim.Native.Nat.{ℕ, zero, suc, _+_, _<_, _≤_, zero-le}
 use Rattle.sheet.specs.Outcome.{finished}
 use Rattle.sheet.specs.Bytes.{wordAt}
 use Rattle.sheet.specs.Layout.{countSize, nodeCount, nodeByte, moduleCount, moduleOf, eventCount, eventOf, watchedPlace, watchedCount, watchedNode, sheetEnd}
 use Rattle.sheet.specs.Wiring.{isInput}
-use Rattle.sheet.specs.Loop.{Chain, link, more, OnLoop, onLoop}
+use Rattle.sheet.specs.Loop.{Chain, link, more, OnLoop}
 use Rattle.sheet.specs.Refusal.{drivenAtStart, key, checked}
 use Rattle.format.specs.Accepted.{Driven, Input, SoundModule, SoundEvent, Accepted}
 use Rattle.format.specs.Condition.{Count, of-nodes, of-modules, of-drive, of-watched, Part, a-count, a-node, a-module, an-event, a-watched, Miswired, output-no-node, input-no-node, unused-not-0, NotAbove, not-above, Condition, ends-inside, outside-range, byte-above, kind-above, parameter-not-allowed, wrong-wiring, delay-above, already-driven, driven-or-not, tick-above, not-an-input, value-above, not-above-before, no-first-event, wrong-watched, left-over, on-loop}
-use Rattle.format.proofs.Tests.{decided, at-most, not-both}
+use Rattle.sheet.proofs.Tests.{decided, at-most}
+use Rattle.order.proofs.Chains.{loop-test}
 use Rattle.format.proofs.Condition.{tells-input, tells-at-start}
 use Rattle.format.proofs.Checked.{finished-iff}
 
@@ -98,10 +97,6 @@ module _ (s : List ℕ) (none : (n p : ℕ) → Condition s n p → ⊥) where
   all-there : length s ≡ sheetEnd s
   all-there = le-antisymm (at-most (λ c. none _ _ (left-over c))) (filled (watchedPlace s) (watchedCount s) (length s) (fits (a-count of-watched)) (λ k h. fits (a-watched k h)))
 
-is-true : (b : Bool) → T b → b ≡ true
-is-true true t = refl
-is-true false t = absurd t
-
 -- The other way: every count and record ends by the sheet's end
 ends : {s : List ℕ} {p size : ℕ} → Part s p size → p + size ≤ sheetEnd s
 ends (a-count of-nodes) = omega arith
@@ -121,61 +116,60 @@ module _ (s : List ℕ) (a : Accepted s) where
   ranged of-watched = (zero-le, a .watched)
 
   wired : (m : ℕ) → m < moduleCount s → Miswired (nodeCount s) (moduleOf s m) → ⊥
-  wired m h (output-no-node c) = not-both (a .sound-modules m h .output) c
-  wired m h (input-no-node v u c) = not-both (a .sound-modules m h .used v u) c
-  wired m h (unused-not-0 v u c) = not-both c (le-of-eq (a .sound-modules m h .unused v u))
+  wired m h (output-no-node c) = not-le-of-lt (a .sound-modules m h .output) c
+  wired m h (input-no-node v u c) = not-le-of-lt (a .sound-modules m h .used v u) c
+  wired m h (unused-not-0 v u c) = not-le-of-lt c (le-of-eq (a .sound-modules m h .unused v u))
 
   risen : {f : ℕ → ℕ} {n : ℕ} → ((i k : ℕ) → i < k → k < n → f i < f k) → (k : ℕ) → k < n → NotAbove f k → ⊥
-  risen rise _ h (not-above k c) = not-both (rise k (suc k) (le-refl (suc k)) h) c
+  risen rise _ h (not-above k c) = not-le-of-lt (rise k (suc k) (le-refl (suc k)) h) c
 
   started : (v : ℕ) → v < nodeCount s → (Driven s v × (nodeByte s v ≡ 4)) ⊎ ((Driven s v → ⊥) × nodeByte s v < 4) → ⊥
   started v h (inl c) = omega (arith, a .initial-values v h (c .0), c .1)
   started v h (inr c) = omega (arith, a .inputs v (record { node = h; undriven = c .0 }), c .1)
 
-  refuted : ((v : ℕ) → onLoop s v ≡ true → OnLoop s v) → (n p : ℕ) → Condition s n p → ⊥
-  refuted looped n p (ends-inside part h) = not-both h (le-trans (ends part) (le-of-eq (sym (a .whole))))
-  refuted looped n p (outside-range c (inl h)) = not-both h (ranged c .0)
-  refuted looped n p (outside-range c (inr h)) = not-both h (ranged c .1)
-  refuted looped n p (byte-above v h c) = not-both c (a .node-bytes v h)
-  refuted looped n p (kind-above m h c) = not-both c (a .sound-modules m h .kind)
-  refuted looped n p (parameter-not-allowed m h c) = not-both c (a .sound-modules m h .parameter)
-  refuted looped n p (wrong-wiring m h c) = wired m h c
-  refuted looped n p (delay-above m h c) = not-both c (a .sound-modules m h .delay)
-  refuted looped n p (already-driven m h b l c) = omega (arith, l, a .one-driver b m (omega arith) h c)
-  refuted looped n p (driven-or-not v h c) = started v h c
-  refuted looped n p (tick-above e h c) = not-both c (a .sound-events e h .tick)
-  refuted looped n p (not-an-input e h c) = c (a .sound-events e h .node)
-  refuted looped n p (value-above e h c) = not-both c (a .sound-events e h .value)
-  refuted looped n p (not-above-before e h c) = risen (a .drive-rises) e h c
-  refuted looped n p (no-first-event v i c) = c (a .driven-at-start v i)
-  refuted looped n p (wrong-watched k h (inl c)) = not-both (a .watched-nodes k h) c
-  refuted looped n p (wrong-watched k h (inr c)) = risen (a .watched-rise) k h c
-  refuted looped n p (left-over c) = not-both c (le-of-eq (a .whole))
-  refuted looped n p (on-loop v h c) = a .no-loop v (looped v c)
+  refuted : (n p : ℕ) → Condition s n p → ⊥
+  refuted n p (ends-inside part h) = not-le-of-lt h (le-trans (ends part) (le-of-eq (sym (a .whole))))
+  refuted n p (outside-range c (inl h)) = not-le-of-lt h (ranged c .0)
+  refuted n p (outside-range c (inr h)) = not-le-of-lt h (ranged c .1)
+  refuted n p (byte-above v h c) = not-le-of-lt c (a .node-bytes v h)
+  refuted n p (kind-above m h c) = not-le-of-lt c (a .sound-modules m h .kind)
+  refuted n p (parameter-not-allowed m h c) = not-le-of-lt c (a .sound-modules m h .parameter)
+  refuted n p (wrong-wiring m h c) = wired m h c
+  refuted n p (delay-above m h c) = not-le-of-lt c (a .sound-modules m h .delay)
+  refuted n p (already-driven m h b l c) = omega (arith, l, a .one-driver b m (omega arith) h c)
+  refuted n p (driven-or-not v h c) = started v h c
+  refuted n p (tick-above e h c) = not-le-of-lt c (a .sound-events e h .tick)
+  refuted n p (not-an-input e h c) = c (a .sound-events e h .node)
+  refuted n p (value-above e h c) = not-le-of-lt c (a .sound-events e h .value)
+  refuted n p (not-above-before e h c) = risen (a .drive-rises) e h c
+  refuted n p (no-first-event v i c) = c (a .driven-at-start v i)
+  refuted n p (wrong-watched k h (inl c)) = not-le-of-lt (a .watched-nodes k h) c
+  refuted n p (wrong-watched k h (inr c)) = risen (a .watched-rise) k h c
+  refuted n p (left-over c) = not-le-of-lt c (le-of-eq (a .whole))
+  refuted n p (on-loop v h c) = a .no-loop v (loop-test s (λ m h. a .sound-modules m h .output) v .0 c)
 
-module _ (loop-test : (s : List ℕ) → ((m : ℕ) → m < moduleCount s → moduleOf s m .output < nodeCount s) → (v : ℕ) → (T (onLoop s v) → OnLoop s v) × (OnLoop s v → T (onLoop s v))) where
-  pub accepted : (s : List ℕ) → checked s ≡ finished 0 → Accepted s
-  accepted s e =
-      let none = finished-iff s .0 e in
-      record {
-        some-node = at-least s none of-nodes;
-        nodes = in-range s none of-nodes;
-        modules = in-range s none of-modules;
-        events = in-range s none of-drive;
-        watched = in-range s none of-watched;
-        node-bytes = byte-in-range s none;
-        sound-modules = module-sound s none;
-        sound-events = event-sound s none;
-        watched-nodes = λ k h. lt-of-not-le (λ c. none _ _ (wrong-watched k h (inl c)));
-        one-driver = drivers s none;
-        initial-values = driven-byte s none;
-        inputs = input-byte s none;
-        drive-rises = rises (λ e. key (eventOf s e)) (eventCount s) (events-rise s none);
-        driven-at-start = λ v i. Dec·not-not (decided (drivenAtStart s v) (tells-at-start s v)) .0 (λ c. none _ _ (no-first-event v i c));
-        watched-rise = rises (watchedNode s) (watchedCount s) (watched-rises s none);
-        no-loop = λ v l. none _ _ (on-loop v (loop-node s none l) (is-true (onLoop s v) (loop-test s (λ m h. module-sound s none m h .output) v .1 l)));
-        whole = all-there s none;
-      }
+pub accepted : (s : List ℕ) → checked s ≡ finished 0 → Accepted s
+accepted s e =
+    let none = finished-iff s .0 e in
+    record {
+      some-node = at-least s none of-nodes;
+      nodes = in-range s none of-nodes;
+      modules = in-range s none of-modules;
+      events = in-range s none of-drive;
+      watched = in-range s none of-watched;
+      node-bytes = byte-in-range s none;
+      sound-modules = module-sound s none;
+      sound-events = event-sound s none;
+      watched-nodes = λ k h. lt-of-not-le (λ c. none _ _ (wrong-watched k h (inl c)));
+      one-driver = drivers s none;
+      initial-values = driven-byte s none;
+      inputs = input-byte s none;
+      drive-rises = rises (λ e. key (eventOf s e)) (eventCount s) (events-rise s none);
+      driven-at-start = λ v i. Dec·not-not (decided (drivenAtStart s v) (tells-at-start s v)) .0 (λ c. none _ _ (no-first-event v i c));
+      watched-rise = rises (watchedNode s) (watchedCount s) (watched-rises s none);
+      no-loop = λ v l. none _ _ (on-loop v (loop-node s none l) (loop-test s (λ m h. module-sound s none m h .output) v .1 l));
+      whole = all-there s none;
+    }
 
-  pub conversely : (s : List ℕ) → Accepted s → checked s ≡ finished 0
-  conversely s a = finished-iff s .1 (refuted s a (λ v e. loop-test s (λ m h. a .sound-modules m h .output) v .0 (subst T (sym e) tt)))
+pub conversely : (s : List ℕ) → Accepted s → checked s ≡ finished 0
+conversely s a = finished-iff s .1 (refuted s a)

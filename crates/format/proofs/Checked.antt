@@ -9,9 +9,9 @@ use Rattle.sheet.specs.Outcome.{finished, refused}
 use Rattle.sheet.specs.Refusal.{Row, _at_when_, rows, checked}
 use Rattle.format.specs.FirstMet.{FirstMet}
 use Rattle.format.specs.Condition.{Condition, FirstCondition, ends-inside, outside-range, byte-above, kind-above, parameter-not-allowed, wrong-wiring, delay-above, already-driven, driven-or-not, tick-above, not-an-input, value-above, not-above-before, no-first-event, wrong-watched, left-over, on-loop}
-use Rattle.format.proofs.Tests.{Tells, fails}
-use Rattle.format.proofs.Rows.{first-clear}
-use Rattle.format.proofs.FirstMet.{first-answers, refused-iff}
+use Rattle.sheet.proofs.Tests.{Tells, fails}
+use Rattle.sheet.proofs.Rows.{first-clear, first-answers}
+use Rattle.format.proofs.FirstMet.{refused-iff}
 use Rattle.format.proofs.Table.{row-tells, met-iff}
 
 -- a finished run exactly when no refusal's condition is met anywhere

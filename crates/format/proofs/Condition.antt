@@ -9,10 +9,10 @@ use Rattle.sheet.specs.declared.Module.{Module}
 use Rattle.sheet.specs.Enumerate.{anyOf}
 use Rattle.sheet.specs.Layout.{nodeCount, nodeByte, moduleOf, moduleCount, eventOf, eventCount, watchedNode}
 use Rattle.sheet.specs.Wiring.{usedInputs, unusedInputs, drivenBy, isDriven, isInput}
-use Rattle.sheet.specs.Refusal.{outside, miswired, key, notAboveEvent, notAboveWatched, drivenAtStart}
+use Rattle.sheet.specs.Refusal.{miswired, key, notAboveEvent, notAboveWatched, drivenAtStart}
 use Rattle.format.specs.Accepted.{Driven, Input, DrivenAtStart}
 use Rattle.format.specs.Condition.{Miswired, output-no-node, input-no-node, unused-not-0, NotAbove, not-above}
-use Rattle.format.proofs.Tests.{Tells, tells-as, tells-lt, tells-le, tells-eq, tells-not, tells-and, tells-or, tells-below, tells-of}
+use Rattle.sheet.proofs.Tests.{Tells, tells-as, tells-lt, tells-le, tells-eq, tells-not, tells-and, tells-or, tells-below, tells-of}
 
 pub tells-driven : (s : List ℕ) (v : ℕ) → Tells (isDriven s v) (Driven s v)
 tells-driven s v =
@@ -74,9 +74,6 @@ unfolding notAboveWatched
 tells-watched s = tells-not-above (watchedNode s) (notAboveWatched s) refl (λ k. refl)
 
 -- Tests made of others, in the order of the table.
-pub tells-outside : (least greatest n : ℕ) → Tells (outside least greatest n) (n < least ⊎ greatest < n)
-tells-outside least greatest n = tells-or (ltb n least) (ltb greatest n) (tells-lt n least) (tells-lt greatest n)
-
 pub tells-start : (s : List ℕ) (v : ℕ) → Tells (isDriven s v && eqb (nodeByte s v) 4 || not (isDriven s v) && ltb (nodeByte s v) 4) ((Driven s v × (nodeByte s v ≡ 4)) ⊎ ((Driven s v → ⊥) × nodeByte s v < 4))
 tells-start s v =
     tells-or

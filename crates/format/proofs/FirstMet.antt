@@ -1,15 +1,14 @@
 -- A check refuses exactly at the first row of the table whose condition is met, and writes no record: the count is 0. Assumes nothing.
 use mathlib.Core.Bool.{Bool, true, false}
-use mathlib.Core.List.{List, [], _∷_, List·Memᴰ·not-nil}
-use mathlib.Core.Logic.{_⊎_, inl, inr}
-use mathlib.Core.Path.{_≡_, refl, _∙_, ap}
+use mathlib.Core.List.{List, [], _∷_, List·Memᴰ, List·Memᴰ·head, List·Memᴰ·not-nil, Memᴰ·append-right}
+use mathlib.Core.Logic.{_↔_}
+use mathlib.Core.Path.{_≡_, refl, sym, _∙_, ap, subst}
 use Prim.Native.Nat.{ℕ}
 use Rattle.level.specs.Choice.{if_then_else_}
 use Rattle.sheet.specs.Outcome.{Outcome, finished, refused}
 use Rattle.sheet.specs.Refusal.{Row, _at_when_, rows, first, checked}
-use Rattle.sheet.proofs.Rows.{passed-append}
 use Rattle.format.specs.FirstMet.{FirstMet}
-use Rattle.format.proofs.Rows.{first-clear, _and_, finished≢refused}
+use Rattle.sheet.proofs.Rows.{_and_, finished≢refused, first-clear, passed-append}
 
 number-of : Outcome → ℕ
 number-of (finished count) = 0
@@ -42,21 +41,15 @@ first-met (x ∷ xs) n p e = go (first-met xs n p) (x .met) refl e
           none-before = _and_ {C = λ r. r .met ≡ false} met (f .none-before);
         }
 
+-- it stands in the table
+pub met-stands : (xs : List Row) (n p : ℕ) → FirstMet xs n p → List·Memᴰ (n at p when true) xs
+met-stands xs n p f = subst (List·Memᴰ (n at p when true)) (sym (f .there)) (Memᴰ·append-right (f .before) (List·Memᴰ·head refl))
+
 pub first-refused : (xs : List Row) (n p : ℕ) → FirstMet xs n p → first xs ≡ refused n p 0
 unfolding first
 first-refused xs n p f = ap first (f .there) ∙ passed-append (f .before) ((n at p when true) ∷ f .after) (first-clear (f .before) .1 (f .none-before))
 
--- the answer is a finished run of no record, or a refusal of count 0
-pub first-answers : (xs : List Row) → (first xs ≡ finished 0) ⊎ ((n : ℕ) × (p : ℕ) × (first xs ≡ refused n p 0))
-unfolding first
-first-answers [] = inl refl
-first-answers (x ∷ xs) = go (x .met) (first-answers xs)
-  where
-    go : (b : Bool) → (first xs ≡ finished 0) ⊎ ((n : ℕ) × (p : ℕ) × (first xs ≡ refused n p 0)) → ((if b then refused (x .number) (x .place) 0 else first xs) ≡ finished 0) ⊎ ((n : ℕ) × (p : ℕ) × ((if b then refused (x .number) (x .place) 0 else first xs) ≡ refused n p 0))
-    go true after = inr (x .number, x .place, refl)
-    go false after = after
-
 -- the table of a sheet
-pub refused-iff : (s : List ℕ) (n p : ℕ) → (checked s ≡ refused n p 0 → FirstMet (rows s) n p) × (FirstMet (rows s) n p → checked s ≡ refused n p 0)
+pub refused-iff : (s : List ℕ) (n p : ℕ) → (checked s ≡ refused n p 0) ↔ FirstMet (rows s) n p
 unfolding checked
 refused-iff s n p = (first-met (rows s) n p, first-refused (rows s) n p)

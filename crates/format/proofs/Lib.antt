@@ -1,6 +1,4 @@
 -- The laws of the format: which sheets are accepted, and how they are written.
-pub mod Tests
-pub mod Rows
 pub mod FirstMet
 pub mod Condition
 pub mod Sections
@@ -8,6 +6,7 @@ pub mod Places
 pub mod Table
 pub mod Checked
 pub mod Accepted
+pub mod Loop
 pub mod Order
 pub mod Listed
 pub mod EncodeSpan
@@ -17,3 +16,4 @@ pub mod EncodeSection
 pub mod EncodeRead
 pub mod EncodePlaces
 pub mod EncodeBytes
+pub mod Theorems

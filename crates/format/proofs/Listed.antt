@@ -1,14 +1,15 @@
 -- A list given by what stands at each number below its length, and the bytes of records of one size in a row. Assumes nothing.
-use mathlib.Core.List.{List, [], _∷_, _++_, append-assoc, List·Memᴰ, List·Memᴰ·head, List·Memᴰ·tail, List·Memᴰ·not-nil, List·Memᴰ·append-cases, List·Memᴰ·eq-of-singleton}
+use mathlib.Core.List.{List, [], _∷_, _++_, append-assoc, List·Memᴰ, List·Memᴰ·head, List·Memᴰ·tail, List·Memᴰ·eq-of-singleton}
 use mathlib.Core.Logic.{_⊎_, inl, inr}
 use mathlib.Core.Path.{_≡_, refl, sym, _∙_, subst}
 use Prim.Native.Nat.{ℕ, zero, suc, _+_, _*_, _<_}
-use native.Mathlib.Nat.{le-of-suc-le-suc, eq-or-lt-of-le, not-suc-le-zero, le-step, le-refl}
+use native.Mathlib.Nat.{le-of-suc-le-suc, eq-or-lt-of-le, not-suc-le-zero}
 use native.Mathlib.Numerals.{add-one}
 use native.Mathlib.Omega.{arith}
 use lib.ListN.{length, getD, length-append, List·getD-append}
 use lib.Seq.{getD-append-add, getD-at, ext-getD}
 use Rattle.sheet.specs.Enumerate.{each}
+use Rattle.sheet.proofs.Each.{each-mem}
 use Rattle.format.specs.Sheet.{listed}
 use Rattle.format.specs.Encode.{allBytes}
 
@@ -32,9 +33,6 @@ module _ {ℓ} {A : Type ℓ} where
   listed-is l d n f e h =
       ext-getD d (listed n f) l (length-listed n f ∙ e) (λ i b. let b′ = rw (length-listed n f) at b in getD-listed n f i d b′ ∙ h i (rw e at b′))
 
-  pub listed-getD : (l : List A) (d : A) → listed (length l) (λ i. getD l i d) ≡ l
-  listed-getD l d = listed-is l d (length l) (λ i. getD l i d) refl (λ i b. refl)
-
   pub getD-mem : (l : List A) (i : ℕ) (d : A) → i < length l → List·Memᴰ (getD l i d) l
   getD-mem [] i d h = absurd (not-suc-le-zero h)
   getD-mem (x ∷ xs) zero d h = List·Memᴰ·head refl
@@ -42,13 +40,9 @@ module _ {ℓ} {A : Type ℓ} where
 
   -- what holds of each entry as it is given holds of each member
   pub listed-all {κ} : (P : A → Type κ) (n : ℕ) (f : ℕ → A) → ((i : ℕ) → i < n → P (f i)) → (x : A) → List·Memᴰ x (listed n f) → P x
-  unfolding each
-  listed-all P zero f h x m = absurd (List·Memᴰ·not-nil m)
-  listed-all P (suc n) f h x m = at (listed-all P n f (λ i b. h i (le-step b)) x) (List·Memᴰ·append-cases (listed n f) m)
-    where
-      at : (List·Memᴰ x (listed n f) → P x) → List·Memᴰ x (listed n f) ⊎ List·Memᴰ x (f n ∷ []) → P x
-      at before (inl m) = before m
-      at before (inr m) = subst P (sym (List·Memᴰ·eq-of-singleton m)) (h n (le-refl (suc n)))
+  listed-all P n f h x m =
+      let e = each-mem n (λ i. f i ∷ []) .0 m in
+      subst P (sym (List·Memᴰ·eq-of-singleton (e .2))) (h (e .0) (e .1))
 
   pub allBytes-append : (bytes : A → List ℕ) (rs qs : List A) → allBytes bytes (rs ++ qs) ≡ allBytes bytes rs ++ allBytes bytes qs
   unfolding allBytes

@@ -1,18 +1,13 @@
 -- The key by which a drive rises is the order by tick and then by node, nodes being below 256. Assumes nothing.
 use mathlib.Core.List.{List}
-use mathlib.Core.Logic.{_↔_, _⊎_, inl, inr}
-use mathlib.Core.Path.{_≡_}
+use mathlib.Core.Logic.{_↔_, inl, inr}
 use native.Mathlib.Decide.{decLt}
 use native.Mathlib.Omega.{arith}
 use Prim.Native.Nat.{ℕ, _<_}
 use Rattle.sheet.specs.declared.Event.{Event}
 use Rattle.sheet.specs.Layout.{eventCount, eventOf}
 use Rattle.sheet.specs.Refusal.{key}
-use Rattle.format.specs.Accepted.{Accepted}
-
--- by tick, then by node
-abbrev pub Before : Event → Event → Type 0
-Before a b = (a .tick < b .tick) ⊎ ((a .tick ≡ b .tick) × (a .node < b .node))
+use Rattle.format.specs.Accepted.{Before, Accepted}
 
 pub key-order : (a b : Event) → a .node < 256 → b .node < 256 → (key a < key b) ↔ Before a b
 key-order a b h l = (λ k. by-tick k (decLt (a .tick) (b .tick)), by-key)

@@ -2,13 +2,13 @@
 use lib.ListN.{getD}
 use mathlib.Core.List.{List, [], _∷_}
 use mathlib.Core.Path.{_≡_, refl, sym, _∙_, ap}
-use native.Mathlib.Nat.{le-refl, le-trans, le-antisymm}
+use native.Mathlib.Nat.{le-refl, le-trans, le-antisymm, not-le-of-lt}
 use native.Mathlib.Decide.{le-ind}
 use native.Mathlib.Omega.{arith}
 use Prim.Native.Nat.{ℕ, zero, suc, _+_, _<_, _≤_}
 use Rattle.sheet.specs.Layout.{countSize, moduleSize, eventSize, modulesPlace, modulePlace, drivePlace, eventPlace, watchedPlace, watchPlace, sheetEnd}
+use Rattle.sheet.proofs.Tests.{at-most}
 use Rattle.format.specs.Condition.{Count, of-nodes, of-modules, of-drive, of-watched, Part, a-count, a-node, a-module, an-event, a-watched}
-use Rattle.format.proofs.Tests.{at-most, not-both}
 
 -- where the counts and the records of each section begin, front to back
 abbrev begins : List ℕ → ℕ → ℕ
@@ -36,7 +36,7 @@ record Lies {A : Type 0} (s : List ℕ) (f : ℕ → A) (p : ℕ) (value : A) : 
   is : value ≡ f stretch
 
 not-after : {A : Type 0} {s : List ℕ} {f : ℕ → A} {p : ℕ} {a b : A} → (l : Lies s f p a) (k : Lies s f p b) → l .stretch ≤ k .stretch
-not-after {s} l k = at-most (λ later. not-both (k .to) (le-trans (begins-later s (suc (k .stretch)) (l .stretch) later) (l .from)))
+not-after {s} l k = at-most (λ later. not-le-of-lt (k .to) (le-trans (begins-later s (suc (k .stretch)) (l .stretch) later) (l .from)))
 
 same-value : {A : Type 0} {s : List ℕ} {f : ℕ → A} {p : ℕ} {a b : A} → Lies s f p a → Lies s f p b → a ≡ b
 same-value {f} l k = l .is ∙ ap f (le-antisymm (not-after l k) (not-after k l)) ∙ sym (k .is)

@@ -13,10 +13,10 @@ use Rattle.sheet.specs.Loop.{onLoop}
 use Rattle.sheet.specs.Refusal.{Row, _at_when_, outside, greatestParameter, key, countRows, nodeRows, moduleRows, startRows, eventRows, firstEventRows, watchedRows, leftOverRows, loopRows, bytesRows, rows}
 use Rattle.format.specs.Accepted.{Driven, Input, DrivenAtStart}
 use Rattle.format.specs.Condition.{Count, of-nodes, of-modules, of-drive, of-watched, Part, a-count, a-node, a-module, an-event, a-watched, Miswired, NotAbove, Condition, ends-inside, outside-range, byte-above, kind-above, parameter-not-allowed, wrong-wiring, delay-above, already-driven, driven-or-not, tick-above, not-an-input, value-above, not-above-before, no-first-event, wrong-watched, left-over, on-loop}
-use Rattle.format.proofs.Tests.{Tells, tells-as, tells-lt, tells-not}
-use Rattle.format.proofs.Rows.{All, all-nil, _and_, _then_, all-each}
-use Rattle.format.proofs.Sections.{in-count, in-node, in-module, in-event, in-watched-node, in-start, in-first-event, in-left-over, in-loop}
-use Rattle.format.proofs.Condition.{tells-outside, tells-input, tells-miswired, tells-earlier, tells-start, tells-event, tells-first-event, tells-wrong-watched}
+use Rattle.sheet.proofs.Tests.{Tells, tells-as, tells-lt, tells-not, tells-outside}
+use Rattle.sheet.proofs.Rows.{All, all-nil, _and_, _then_, all-each}
+use Rattle.format.proofs.Sections.{in-count, in-node, in-module, in-event, in-watched-node, in-start, in-first-event, in-left-over, in-bytes, in-loop}
+use Rattle.format.proofs.Condition.{tells-input, tells-miswired, tells-earlier, tells-start, tells-event, tells-first-event, tells-wrong-watched}
 use Rattle.format.proofs.Places.{same-size, same-range, same-module, same-event, same-watched}
 
 -- the output is driven by an earlier record
@@ -166,30 +166,33 @@ module _ (s : List ℕ) where
   abbrev Stands : ℕ → ℕ → Type 0
   Stands n p = (b : Bool) × List·Memᴰ (n at p when b) (rows s)
 
+  of-bytes : {n p : ℕ} {b : Bool} → List·Memᴰ (n at p when b) (bytesRows s) → Stands n p
+  of-bytes {b} m = (b, in-bytes s m)
+
   short-stands : {p size : ℕ} → Part s p size → Stands 2 p
-  short-stands (a-count c) = (_, in-count s c here)
-  short-stands (a-node v h) = (_, in-node s v h here)
-  short-stands (a-module m h) = (_, in-module s m h here)
-  short-stands (an-event e h) = (_, in-event s e h here)
-  short-stands (a-watched k h) = (_, in-watched-node s k h here)
+  short-stands (a-count c) = of-bytes (in-count s c here)
+  short-stands (a-node v h) = of-bytes (in-node s v h here)
+  short-stands (a-module m h) = of-bytes (in-module s m h here)
+  short-stands (an-event e h) = of-bytes (in-event s e h here)
+  short-stands (a-watched k h) = of-bytes (in-watched-node s k h here)
 
   stands : {n p : ℕ} → Condition s n p → Stands n p
   stands (ends-inside part l) = short-stands part
-  stands (outside-range c o) = (_, in-count s c (later here))
-  stands (byte-above v h c) = (_, in-node s v h (later here))
-  stands (kind-above m h c) = (_, in-module s m h (later here))
-  stands (parameter-not-allowed m h c) = (_, in-module s m h (later (later here)))
-  stands (wrong-wiring m h c) = (_, in-module s m h (later (later (later here))))
-  stands (delay-above m h c) = (_, in-module s m h (later (later (later (later here)))))
-  stands (already-driven m h a l c) = (_, in-module s m h (later (later (later (later (later here))))))
-  stands (driven-or-not v h c) = (_, in-start s v h here)
-  stands (tick-above e h c) = (_, in-event s e h (later here))
-  stands (not-an-input e h c) = (_, in-event s e h (later (later here)))
-  stands (value-above e h c) = (_, in-event s e h (later (later (later here))))
-  stands (not-above-before e h c) = (_, in-event s e h (later (later (later (later here)))))
-  stands (no-first-event v i c) = (_, in-first-event s v (i .node) here)
-  stands (wrong-watched k h c) = (_, in-watched-node s k h (later here))
-  stands (left-over c) = (_, in-left-over s here)
+  stands (outside-range c o) = of-bytes (in-count s c (later here))
+  stands (byte-above v h c) = of-bytes (in-node s v h (later here))
+  stands (kind-above m h c) = of-bytes (in-module s m h (later here))
+  stands (parameter-not-allowed m h c) = of-bytes (in-module s m h (later (later here)))
+  stands (wrong-wiring m h c) = of-bytes (in-module s m h (later (later (later here))))
+  stands (delay-above m h c) = of-bytes (in-module s m h (later (later (later (later here)))))
+  stands (already-driven m h a l c) = of-bytes (in-module s m h (later (later (later (later (later here))))))
+  stands (driven-or-not v h c) = of-bytes (in-start s v h here)
+  stands (tick-above e h c) = of-bytes (in-event s e h (later here))
+  stands (not-an-input e h c) = of-bytes (in-event s e h (later (later here)))
+  stands (value-above e h c) = of-bytes (in-event s e h (later (later (later here))))
+  stands (not-above-before e h c) = of-bytes (in-event s e h (later (later (later (later here)))))
+  stands (no-first-event v i c) = of-bytes (in-first-event s v (i .node) here)
+  stands (wrong-watched k h c) = of-bytes (in-watched-node s k h (later here))
+  stands (left-over c) = of-bytes (in-left-over s here)
   stands (on-loop v h c) = (_, in-loop s v h here)
 
 -- each row of the table: its test passes exactly when its condition is met

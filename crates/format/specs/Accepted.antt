@@ -1,5 +1,6 @@
 -- What holds of a sheet that a check does not refuse, whatever the order in which it is read: all that document 01's refusals 2 to 18 rule out.
 use mathlib.Core.List.{List, List·Memᴰ}
+use mathlib.Core.Logic.{_⊎_}
 use mathlib.Core.Path.{_≡_}
 use Prim.Native.Nat.{ℕ, _<_, _≤_}
 use lib.ListN.{length}
@@ -35,6 +36,10 @@ pub record SoundEvent (s : List ℕ) (e : Event) : Type 0 where
   pub tick : e .tick ≤ 999999
   pub node : Input s (e .node)
   pub value : e .value ≤ 3
+
+-- one event before another: by tick, then by node
+abbrev pub Before : Event → Event → Type 0
+Before a b = (a .tick < b .tick) ⊎ ((a .tick ≡ b .tick) × (a .node < b .node))
 
 -- an event at tick 0 drives the node
 pub record DrivenAtStart (s : List ℕ) (v : ℕ) : Type 0 where

@@ -1,5 +1,5 @@
 -- A rule over small numbers, proved at all of them by one test that antt computes. Assumes nothing.
-use mathlib.Core.Bool.{Bool, true, false, _&&_}
+use mathlib.Core.Bool.{Bool, true, _&&_}
 use mathlib.Core.List.{List}
 use mathlib.Core.Path.{_≡_}
 use Prim.Native.Nat.{ℕ, zero, suc, _<_}
@@ -7,6 +7,7 @@ use native.Mathlib.Nat.{not-suc-le-zero}
 use native.Mathlib.Decide.{ℕ-discrete}
 use native.Mathlib.Omega.{arith}
 use lib.Dec.{T, eqb, eqb→eq}
+use lib.Ieee.Fits.{and-l, and-r}
 use lib.ListN.{getD}
 
 -- the test f passes at every number below n
@@ -14,21 +15,13 @@ abbrev pub allBelow : ℕ → (ℕ → Bool) → Bool
 allBelow zero f = true
 allBelow (suc n) f = f n && allBelow n f
 
-pub both-left : (a b : Bool) → T (a && b) → T a
-both-left true b t = tt
-both-left false b t = t
-
-pub both-right : (a b : Bool) → T (a && b) → T b
-both-right true b t = t
-both-right false b t = absurd t
-
 -- what the test says at one of the numbers
 pub below : (n : ℕ) (f : ℕ → Bool) → T (allBelow n f) → (i : ℕ) → i < n → T (f i)
 below zero f t i h = absurd (not-suc-le-zero h)
-below (suc n) f t i h = at (ℕ-discrete i n) (below n f (both-right (f n) (allBelow n f) t) i)
+below (suc n) f t i h = at (ℕ-discrete i n) (below n f (and-r (f n) (allBelow n f) t) i)
   where
     at : Dec (i ≡ n) → (i < n → T (f i)) → T (f i)
-    at (yes e) less = rw e (both-left (f n) (allBelow n f) t)
+    at (yes e) less = rw e (and-l (f n) (allBelow n f) t)
     at (no ne) less = less (omega arith)
 
 -- A table's first n entries are what g gives. `rw` finds the table in the goal, and a test that passes asks no proof.

@@ -3,8 +3,8 @@ use mathlib.Core.Bool.{Bool, true, _&&_}
 use mathlib.Core.List.{List, [], _∷_, List·Memᴰ·not-nil, List·Memᴰ·cases-cons}
 use mathlib.Core.Logic.{⊎-elim}
 use lib.Dec.{T, eqb, eqb→eq}
+use lib.Ieee.Fits.{and-l, and-r}
 use Rattle.level.specs.Examples.{Example, Hold, gateExamples}
-use Rattle.level.proofs.Computed.{both-left, both-right}
 
 -- what is given and what is stated are the same
 abbrev pub right : Example → Bool
@@ -18,8 +18,8 @@ pub computed : (l : List Example) → T (allRight l) → Hold l
 computed [] t e m = absurd (List·Memᴰ·not-nil m)
 computed (x ∷ l) t e m =
     ⊎-elim
-    (λ q. rw q (eqb→eq _ _ (both-left (right x) (allRight l) t)))
-    (λ m. computed l (both-right (right x) (allRight l) t) e m)
+    (λ q. rw q (eqb→eq _ _ (and-l (right x) (allRight l) t)))
+    (λ m. computed l (and-r (right x) (allRight l) t) e m)
     (List·Memᴰ·cases-cons m)
 
 pub gate-examples : Hold gateExamples

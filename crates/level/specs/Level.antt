@@ -1,5 +1,5 @@
 -- Document 01, "Time and values": 0 low, 1 high, 2 undefined (printed X), 3 no value (printed Z).
-use mathlib.Core.List.{List, [], _∷_}
+use mathlib.Core.List.{[], _∷_}
 use Prim.Native.Nat.{ℕ}
 use lib.ListN.{getD}
 

@@ -1,6 +1,6 @@
 // The four values of a cell, and the gates' rules as constant tables over them.
 ghost use mathlib.Core.Path.{_≡_};
-ghost use Prim.Native.Nat.{_<_, _≤_};
+ghost use Prim.Native.Nat.{ℕ, _%_, _<_, _≤_};
 ghost use Rattle.level.specs.Level.{printed};
 ghost use Rattle.level.specs.Gate.{member};
 ghost use Rattle.level.specs.Rule.{comesTo};
@@ -159,18 +159,25 @@ impl Level {
 
     pub const NONE: u8 = 3;
 
-    // The byte that prints a value.
+    // The byte that prints a value. Only the value's two low bits count.
     pub fn printed(value: u8) -> u8
-        ensures { λ r. ⌜ (value < 4 → r ≡ printed value) ⌝ }
+        ensures { λ r. ⌜ r ≡ printed (value % 4) ⌝ }
     {
         PRINTED[(value % 4) as usize]
     }
 
-    // Whether a memory's set has a value.
+    // Whether a memory's set has a value. Only the value's two low bits count.
     pub fn in_set(set: u8, value: u8) -> bool
-        ensures { λ r. ⌜ (set < 16 → value < 4 → r ≡ member set value) ⌝ }
+        ensures { λ r. ⌜ r ≡ member set (value % 4) ⌝ }
     {
         set / WEIGHTS[(value % 4) as usize] % 2 == 1
+    }
+
+    // A constant, kind 0: its parameter, whatever the inputs and the value held.
+    pub fn constant(parameter: u8) -> u8
+        ensures { λ r. ⌜ ((first second held : ℕ) → r ≡ comesTo (ruleOf 0 parameter) first second held) ⌝ }
+    {
+        parameter
     }
 
     // A gate of kind 1 to 8 over its inputs' values.

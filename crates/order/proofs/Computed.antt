@@ -1,6 +1,6 @@
 -- The definitions compute: of two loops with a node between them, and a node after them, only the loops' nodes are on a loop. Assumes nothing.
 use mathlib.Core.List.{List, [], _∷_, map}
-use mathlib.Core.Bool.{Bool, true, false}
+use mathlib.Core.Bool.{true, false}
 use mathlib.Core.Path.{_≡_, refl}
 use Prim.Native.Nat.{ℕ}
 use Rattle.sheet.specs.Enumerate.{anyBelow, each}

@@ -1,5 +1,4 @@
 -- The laws of this crate that belong to no one function.
-pub mod Tests
 pub mod Over
 pub mod Chains
 pub mod Rows

@@ -1,28 +1,16 @@
 -- Where each number below a bound has one row of the same refusal, the first row met is that of the least number whose condition is met. Assumes
 -- nothing.
 use mathlib.Core.Bool.{Bool, true, false}
-use mathlib.Core.List.{List, [], _∷_, _++_}
-use mathlib.Core.Logic.{_⊎_, inl, inr, ⊎-elim}
-use mathlib.Core.Path.{_≡_, refl, sym, _∙_, ap₂, subst}
+use mathlib.Core.List.{List, [], _∷_, List·Memᴰ·head}
+use mathlib.Core.Logic.{_↔_, _⊎_, inl, inr, ⊎-elim}
+use mathlib.Core.Path.{_≡_, refl, sym, _∙_, subst}
 use Prim.Native.Nat.{ℕ, zero, suc, _<_}
 use native.Mathlib.Nat.{le-of-suc-le-suc, eq-or-lt-of-le, not-suc-le-zero, le-step, lt-suc-self}
-use native.Mathlib.Omega.{arith}
 use Rattle.sheet.specs.Enumerate.{each}
 use Rattle.sheet.specs.Outcome.{finished, refused}
 use Rattle.sheet.specs.Refusal.{Row, _at_when_, first}
-use Rattle.sheet.proofs.Rows.{first-append}
-
-differ : {a number place count : ℕ} → finished a ≡ refused number place count → ⊥
-differ e = let z : _≡_ {A = ℕ} 0 1 = cc in omega arith
-
-same-place : {a b p q c d : ℕ} → refused a p c ≡ refused b q d → p ≡ q
-same-place e = cc
-
--- rows that are equal below the bound
-pub each-same {ℓ} : {A : Type ℓ} (n : ℕ) (f g : ℕ → List A) → ((k : ℕ) → k < n → f k ≡ g k) → each n f ≡ each n g
-unfolding each
-each-same zero f g h = refl
-each-same (suc n) f g h = ap₂ _++_ (each-same n f g (λ k l. h k (le-step l))) (h n (lt-suc-self n))
+use Rattle.sheet.proofs.Each.{each-mem}
+use Rattle.sheet.proofs.Rows.{all-nil, _and_, all-each, finished≢refused, first-clear, refused-each}
 
 -- the least number below the bound at which the test passes
 pub record Least (n : ℕ) (f : ℕ → Bool) (v : ℕ) : Type 0 where
@@ -34,7 +22,7 @@ pub record Least (n : ℕ) (f : ℕ → Bool) (v : ℕ) : Type 0 where
 abbrev pub None : ℕ → (ℕ → Bool) → Type 0
 None n f = (k : ℕ) → k < n → f k ≡ false
 
-pub least-or-none : (n : ℕ) (f : ℕ → Bool) → ((v : ℕ) × Least n f v) ⊎ None n f
+least-or-none : (n : ℕ) (f : ℕ → Bool) → ((v : ℕ) × Least n f v) ⊎ None n f
 least-or-none zero f = inr (λ k l. absurd (not-suc-le-zero l))
 least-or-none (suc n) f = go (f n) refl (least-or-none n f)
   where
@@ -44,35 +32,25 @@ least-or-none (suc n) f = go (f n) refl (least-or-none n f)
     go false e (inr none) = inr (λ k l. ⊎-elim (λ q. subst (λ (m : ℕ). f m ≡ false) (sym q) e) (none k) (eq-or-lt-of-le (le-of-suc-le-suc l)))
 
 -- one refusal's condition at each number
-abbrev pub rowsOf : ℕ → (ℕ → Bool) → ℕ → List Row
+abbrev rowsOf : ℕ → (ℕ → Bool) → ℕ → List Row
 rowsOf number f v = (number at v when f v) ∷ []
 
-module _ (number : ℕ) (f : ℕ → Bool) where
-  pub none-met : (n : ℕ) → None n f → first (each n (rowsOf number f)) ≡ finished 0
-  unfolding first each
-  none-met zero h = refl
-  none-met (suc n) h = rw (first-append, none-met n (λ k l. h k (le-step l)), h n (lt-suc-self n))
+same-place : {a b p q c d : ℕ} → refused a p c ≡ refused b q d → p ≡ q
+same-place e = cc
 
-  pub least-met : (n v : ℕ) → Least n f v → first (each n (rowsOf number f)) ≡ refused number v 0
-  unfolding first each
-  least-met zero v l = absurd (not-suc-le-zero (l .below))
-  least-met (suc n) v l =
-      ⊎-elim
-      (λ e. rw (first-append, none-met n (λ k h. l .before k (subst (λ (m : ℕ). k < m) (sym e) h)), ← e, l .met))
-      (λ h. rw (first-append, least-met n v (record { below = h; met = l .met; before = l .before })))
-      (eq-or-lt-of-le (le-of-suc-le-suc (l .below)))
+pub none-met : (number : ℕ) (f : ℕ → Bool) (n : ℕ) → (first (each n (rowsOf number f)) ≡ finished 0) ↔ None n f
+none-met number f n = (
+  λ e k l. first-clear (each n (rowsOf number f)) .0 e (number at k when f k) (each-mem n (rowsOf number f) .1 (k, l, List·Memᴰ·head refl)),
+  λ none. first-clear (each n (rowsOf number f)) .1 (all-each n (rowsOf number f) (λ k l. _and_ {C = λ r. r .met ≡ false} (none k l) (all-nil (λ r. r .met ≡ false)))),
+)
 
-  -- and the other way
-  pub met-none : (n : ℕ) → first (each n (rowsOf number f)) ≡ finished 0 → None n f
-  met-none n e = go (least-or-none n f)
-    where
-      go : ((v : ℕ) × Least n f v) ⊎ None n f → None n f
-      go (inr none) = none
-      go (inl (v, l)) = absurd (differ (sym e ∙ least-met n v l))
+pub least-met : (number : ℕ) (f : ℕ → Bool) (n v : ℕ) → (first (each n (rowsOf number f)) ≡ refused number v 0) ↔ Least n f v
+unfolding first
+least-met number f n v = (λ e. found e (least-or-none n f), stands v)
+  where
+    stands : (v : ℕ) → Least n f v → first (each n (rowsOf number f)) ≡ refused number v 0
+    stands v l = refused-each (rowsOf number f) v n (l .below) (none-met number f v .1 (l .before)) (rw (l .met))
 
-  pub met-least : (n v : ℕ) → first (each n (rowsOf number f)) ≡ refused number v 0 → Least n f v
-  met-least n v e = go (least-or-none n f)
-    where
-      go : ((v : ℕ) × Least n f v) ⊎ None n f → Least n f v
-      go (inl (w, l)) = subst (Least n f) (same-place (sym (least-met n w l) ∙ e)) l
-      go (inr none) = absurd (differ (sym (none-met n none) ∙ e))
+    found : first (each n (rowsOf number f)) ≡ refused number v 0 → ((v : ℕ) × Least n f v) ⊎ None n f → Least n f v
+    found e (inl (w, l)) = subst (Least n f) (same-place (sym (stands w l) ∙ e)) l
+    found e (inr none) = absurd (finished≢refused (sym (none-met number f n .1 none) ∙ e))

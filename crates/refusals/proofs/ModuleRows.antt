@@ -4,7 +4,6 @@ use mathlib.Core.List.{List, [], _∷_}
 use mathlib.Core.Path.{_≡_, sym, ap, _∙_}
 use Prim.Native.Nat.{ℕ, _+_, _<_}
 use native.Mathlib.Numerals.{add-one}
-use native.Mathlib.Omega.{arith}
 use lib.Dec.{ltb}
 use lib.ListN.{length, getD, set}
 use Rattle.sheet.specs.declared.Module.{Module}
@@ -12,16 +11,13 @@ use Rattle.sheet.specs.declared.ModuleRead.{ModuleRead}
 use Rattle.sheet.specs.Bytes.{endsInside}
 use Rattle.sheet.specs.Enumerate.{anyBelow}
 use Rattle.sheet.specs.Layout.{moduleSize, nodeCount, modulePlace, moduleRecord}
-use Rattle.sheet.specs.Outcome.{finished, refused}
+use Rattle.sheet.specs.Outcome.{refused}
 use Rattle.sheet.specs.Reading.{moduleRead}
 use Rattle.sheet.specs.Refusal.{Row, _at_when_, first, greatestParameter, miswired, moduleRows}
 use Rattle.sheet.specs.Wiring.{drivenBy}
 use Rattle.sheet.proofs.Read.{short-module, whole-module}
 use Rattle.refusals.specs.Flags.{Flags}
 use Rattle.refusals.proofs.Flags.{flag-more}
-
-pub not-finished : {n p k j : ℕ} → refused n p k ≡ finished j → ⊥
-not-finished e = let z : _≡_ {A = ℕ} 0 1 = cc in omega arith
 
 -- the rows of a record that is read whole, over the count of nodes and a test for those driven before it
 abbrev pub recordRows : ℕ → (ℕ → Bool) → ℕ → Module → List Row

@@ -1,17 +1,15 @@
--- What a node's byte says of its rows, and the nodes' count of its own. Assumes nothing.
-use mathlib.Core.Bool.{Bool, true, false}
+-- What a node's byte says of its rows. Assumes nothing.
 use mathlib.Core.List.{List}
-use mathlib.Core.Path.{_≡_, refl, sym, ap, _∙_}
-use Prim.Native.Nat.{ℕ, _+_, _<_, _≤_}
+use mathlib.Core.Path.{_≡_}
+use Prim.Native.Nat.{ℕ, _<_, _≤_}
 use borrow.Author.Tests.{lt-ltb, le-ltb}
-use Rattle.sheet.specs.declared.CountRead.{CountRead}
 use Rattle.sheet.specs.declared.NodeRead.{NodeRead}
-use Rattle.sheet.specs.Bytes.{byteAt, wordAt, endsInside}
-use Rattle.sheet.specs.Layout.{nodeCount, nodePlace, nodeByte}
-use Rattle.sheet.specs.Outcome.{Outcome, finished, refused}
-use Rattle.sheet.specs.Reading.{countRead, nodeRead}
-use Rattle.sheet.specs.Refusal.{first, nodeRows, countRows, outside}
-use Rattle.sheet.proofs.Read.{short-count, whole-count, short-node, whole-node}
+use Rattle.sheet.specs.Bytes.{endsInside}
+use Rattle.sheet.specs.Layout.{nodePlace, nodeByte}
+use Rattle.sheet.specs.Outcome.{finished, refused}
+use Rattle.sheet.specs.Reading.{nodeRead}
+use Rattle.sheet.specs.Refusal.{first, nodeRows}
+use Rattle.sheet.proofs.Read.{short-node, whole-node}
 
 module _ (s : List ℕ) (v : ℕ) where
   pub node-short : NodeRead.Short ≡ nodeRead s (nodePlace v) → refused 2 (nodePlace v) 0 ≡ first (nodeRows s v)

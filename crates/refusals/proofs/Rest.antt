@@ -22,4 +22,4 @@ pub counts-in-range : (s : List ℕ) → first (bytesRows s) ≡ finished 0 → 
 counts-in-range s h =
     let all = both-passed (nodesSection s) (fromModules s) (sym (ap first (front-to-back s)) ∙ h) in
     let modules = both-passed (modulesSection s) (fromStarts s) (all .1) in
-    (count-bound s 0 1 256 (each (nodeCount s) (nodeRows s)) (all .0), count-bound s (modulesPlace s) 0 256 (each (moduleCount s) (moduleRows s)) (modules .0))
+    (count-bound s 0 1 256 (nodeRows s) (all .0), count-bound s (modulesPlace s) 0 256 (moduleRows s) (modules .0))

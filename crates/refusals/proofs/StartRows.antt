@@ -1,32 +1,18 @@
 -- What a node's byte and its flags say of its rows after the modules and after the drive. Assumes nothing.
-use mathlib.Core.Bool.{Bool, true, false, _&&_, _||_}
+use mathlib.Core.Bool.{Bool, true, false, or-false}
 use mathlib.Core.List.{List}
-use mathlib.Core.Path.{_≡_, refl, sym, ap, _∙_}
+use mathlib.Core.Path.{_≡_, sym, _∙_}
 use Prim.Native.Nat.{ℕ, _+_, _<_, _≤_}
-use native.Mathlib.Decide.{ℕ-discrete}
 use native.Mathlib.Numerals.{add-one}
-use lib.Dec.{eqb}
-use lib.ListN.{length, getD, set}
-use lib.Seq.{getD-set-same, getD-set-other}
+use lib.ListN.{length, set}
 use borrow.Author.Tests.{lt-ltb, le-ltb, eq-eqb, ne-eqb}
 use Rattle.sheet.specs.Enumerate.{anyBelow}
 use Rattle.sheet.specs.Layout.{nodeCount, nodeByte, eventOf}
-use Rattle.sheet.specs.Outcome.{Outcome, finished, refused}
+use Rattle.sheet.specs.Outcome.{finished, refused}
 use Rattle.sheet.specs.Wiring.{isDriven}
 use Rattle.sheet.specs.Refusal.{first, startRows, drivenAtStart, startedBy, firstEventRows}
 use Rattle.refusals.specs.Flags.{Flags}
-
-or-true : (b : Bool) → b || true ≡ true
-or-true true = refl
-or-true false = refl
-
-or-false : (b : Bool) → b || false ≡ b
-or-false true = refl
-or-false false = refl
-
-and-false : (b : Bool) → b && false ≡ false
-and-false true = refl
-and-false false = refl
+use Rattle.refusals.proofs.Flags.{flag-more}
 
 module _ (s : List ℕ) (v : ℕ) where
   pub driven-input : isDriven s v ≡ true → nodeByte s v ≡ 4 → refused 10 v 0 ≡ first (startRows s v)
@@ -62,13 +48,8 @@ module _ (s : List ℕ) (v : ℕ) where
 module _ (s : List ℕ) (e : ℕ) (flags : List Bool) (before : Flags flags (startedBy s e)) where
   pub started-more : length flags ≡ 256 → (n : ℕ) → n ≡ eventOf s e .node → n < 256 → eventOf s e .tick ≡ 0 → Flags (set flags n true) (startedBy s (e + 1))
   unfolding anyBelow
-  started-more long n is below z v h = go (ℕ-discrete v n)
-    where
-      go : Dec (v ≡ n) → getD (set flags n true) v false ≡ startedBy s (e + 1) v
-      go (yes q) =
-          rw (q, add-one) (getD-set-same flags n true false (rw long below) ∙ sym (rw (eq-eqb _ 0 z, eq-eqb _ n (sym is)) (or-true (startedBy s e n))))
-      go (no q) = getD-set-other flags n v true false q ∙ before v h ∙ sym (rw (add-one, ne-eqb _ v (λ r. q (sym (is ∙ r)))) (ap (λ b. startedBy s e v || b) (and-false (eqb (eventOf s e .tick) 0)) ∙ or-false (startedBy s e v)))
+  started-more long n is below z v = rw (add-one e, eq-eqb _ 0 z, ← is) (flag-more flags (startedBy s e) n long below before v)
 
   pub started-same : (eventOf s e .tick ≡ 0 → ⊥) → Flags flags (startedBy s (e + 1))
   unfolding anyBelow
-  started-same z v h = before v h ∙ sym (rw (add-one, ne-eqb _ 0 z) (or-false (startedBy s e v)))
+  started-same z v h = before v h ∙ sym (rw (add-one e, ne-eqb _ 0 z) (or-false (startedBy s e v)))

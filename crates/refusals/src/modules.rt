@@ -4,28 +4,16 @@ use sheet::CountRead;
 use sheet::Module;
 use sheet::ModuleRead;
 ghost use mathlib.Core.Path.{_≡_};
-ghost use Prim.Native.Nat.{ℕ, _+_, _≤_};
+ghost use Prim.Native.Nat.{_+_, _≤_};
 ghost use lib.Dec.{leb, ltb};
 ghost use lib.ListN.{length};
 ghost use Rattle.level.specs.Choice.{if_then_else_};
-ghost use Rattle.level.specs.Rule.{inputsOf};
-ghost use Rattle.level.specs.Kind.{ruleOf};
 ghost use Rattle.sheet.specs.Enumerate.{each};
 ghost use Rattle.sheet.specs.Layout.{nodeCount, modulePlace};
 ghost use Rattle.sheet.specs.Outcome.{outcomeOf, finished};
 ghost use Rattle.sheet.specs.Wiring.{drivenBy, isDriven};
 ghost use Rattle.sheet.specs.Refusal.{first, greatestParameter, miswired, moduleRows, modulesSection};
 ghost use Rattle.refusals.specs.Flags.{Flags};
-
-// How many inputs each kind uses, from the first on.
-const INPUTS: [u8; 10] = [0, 1, 1, 2, 2, 2, 2, 2, 2, 2];
-
-// How many inputs a kind uses; a kind that no table has uses none.
-fn inputs(kind: u8) -> u8
-    ensures { λ r. ⌜ ((parameter : ℕ) → r ≡ inputsOf (ruleOf kind parameter)) ⌝ }
-{
-    if kind < 10 { INPUTS[kind as usize] } else { 0 }
-}
 
 // The greatest parameter that a kind allows.
 fn greatest(kind: u8) -> u8
@@ -51,7 +39,7 @@ fn wrong_input(used: bool, node: u8, nodes: u16) -> bool
 fn wrong_nodes(m: Module, nodes: u16) -> bool
     ensures { λ r. ⌜ r ≡ miswired nodes m ⌝ }
 {
-    let n = inputs(m.kind);
+    let n = sheet::inputs(m.kind);
     if nodes <= m.output as u16 {
         return true;
     }

@@ -4,7 +4,6 @@ use sheet::CountRead;
 use sheet::NodeRead;
 ghost use mathlib.Core.Path.{_≡_};
 ghost use Prim.Native.Nat.{_<_, _≤_};
-ghost use Rattle.sheet.specs.Layout.{nodeCount};
 ghost use Rattle.sheet.specs.Enumerate.{each};
 ghost use Rattle.sheet.specs.Outcome.{outcomeOf};
 ghost use Rattle.sheet.specs.Refusal.{first, nodeRows, nodesSection};

@@ -1,6 +1,5 @@
 // After the modules, each node's byte; after the drive, each input's first event.
 use sheet::Answer;
-ghost use mathlib.Core.Bool.{Bool, true};
 ghost use mathlib.Core.Path.{_≡_};
 ghost use Prim.Native.Nat.{_+_, _<_, _≤_};
 ghost use lib.ListN.{length};

@@ -2,9 +2,8 @@
 use sheet::Answer;
 use sheet::CountRead;
 use sheet::NodeRead;
-ghost use mathlib.Core.Bool.{Bool};
 ghost use mathlib.Core.Path.{_≡_};
-ghost use Prim.Native.Nat.{_+_, _<_, _≤_};
+ghost use Prim.Native.Nat.{_≤_};
 ghost use Rattle.sheet.specs.Enumerate.{each};
 ghost use Rattle.sheet.specs.Layout.{nodeCount, watchedPlace, watchPlace};
 ghost use Rattle.sheet.specs.Outcome.{outcomeOf};

@@ -1,8 +1,8 @@
 -- The definitions compute: the check of small sheets. Assumes nothing.
-use mathlib.Core.List.{List, [], _∷_, _++_}
+use mathlib.Core.List.{List, [], _∷_}
 use mathlib.Core.Path.{_≡_, refl}
 use Prim.Native.Nat.{ℕ}
-use Rattle.sheet.specs.Outcome.{Outcome, finished, refused}
+use Rattle.sheet.specs.Outcome.{finished, refused}
 use Rattle.sheet.specs.Enumerate.{anyBelow, each}
 use Rattle.sheet.specs.Loop.{leadsOver}
 use Rattle.sheet.specs.Refusal.{notAboveEvent, notAboveWatched, bytesRows, rows, first, checked}

@@ -1,4 +1,6 @@
 -- The laws of this crate that belong to no one function.
 pub mod Computed
+pub mod Tests
+pub mod Each
 pub mod Rows
 pub mod Read

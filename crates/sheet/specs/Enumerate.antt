@@ -1,5 +1,5 @@
 -- What holds somewhere in a list or below a bound, and what is put in a row for each number below a bound.
-use mathlib.Core.Bool.{Bool, true, false, _||_}
+use mathlib.Core.Bool.{Bool, false, _||_}
 use mathlib.Core.List.{List, [], _∷_, _++_}
 use Prim.Native.Nat.{ℕ, zero, suc}
 

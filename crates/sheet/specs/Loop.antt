@@ -27,6 +27,16 @@ pub record OnLoop (s : List ℕ) (v : ℕ) : Type 0 where
   pub closed : Chain s driver driver
   pub output : moduleOf s driver .output ≡ v
 
+-- the least node on any zero-delay loop
+pub record LeastOnLoop (s : List ℕ) (v : ℕ) : Type 0 where
+  pub node : v < nodeCount s
+  pub on-loop : OnLoop s v
+  pub least : (u : ℕ) → u < v → OnLoop s u → ⊥
+
+-- no node is on a zero-delay loop
+abbrev pub LoopFree : List ℕ → Type 0
+LoopFree s = (v : ℕ) → v < nodeCount s → OnLoop s v → ⊥
+
 -- The same as a test. A module of delay 0 has the first node for a used input and the second for its output:
 abbrev pub leads : List ℕ → ℕ → ℕ → Bool
 leads s u v = anyBelow (moduleCount s) (λ m. eqb (moduleOf s m .delay) 0 && eqb (moduleOf s m .output) v && anyOf (eqb u) (usedInputs (moduleOf s m)))
@@ -39,3 +49,7 @@ leadsOver s (suc k) u v = leadsOver s k u v || leadsOver s k u k && leadsOver s 
 -- a node leads to itself
 abbrev pub onLoop : List ℕ → ℕ → Bool
 onLoop s v = leadsOver s (nodeCount s) v v
+
+-- The test tells a loop where every module's output is a node, which refusal 7 sees to:
+abbrev pub Outputs : List ℕ → Type 0
+Outputs s = (m : ℕ) → m < moduleCount s → moduleOf s m .output < nodeCount s

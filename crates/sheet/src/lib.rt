@@ -1,5 +1,8 @@
 // The sheet's bytes: its records, and reading them.
 ghost use mathlib.Core.Path.{_≡_};
+ghost use Prim.Native.Nat.{ℕ};
+ghost use Rattle.level.specs.Rule.{inputsOf};
+ghost use Rattle.level.specs.Kind.{ruleOf};
 ghost use Rattle.sheet.specs.Bytes.{byteAt, wordAt, longAt};
 ghost use Rattle.sheet.specs.Layout.{moduleRecord, eventRecord};
 ghost use Rattle.sheet.specs.Reading.{countRead, nodeRead, moduleRead, eventRead};
@@ -141,4 +144,15 @@ pub fn event_at(s: &[u8], p: u16) -> EventRead
     } else {
         EventRead::Whole(event_record(s, p))
     }
+}
+
+// How many inputs each kind uses, from the first on.
+const INPUTS: [u8; 10] = [0, 1, 1, 2, 2, 2, 2, 2, 2, 2];
+
+// How many inputs a kind uses; a kind that no table has uses none.
+pub fn inputs(kind: u8) -> u8
+    ensures { λ r. ⌜ ((parameter : ℕ) → r ≡ inputsOf (ruleOf kind parameter)) ⌝ }
+{
+    let k = kind as usize;
+    if k < 10 { INPUTS[k] } else { 0 }
 }

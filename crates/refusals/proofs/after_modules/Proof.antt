@@ -1,5 +1,5 @@
 -- `refusals::after_modules` meets its contract: an initial value's refusal stands, or what is left decides. Assumes nothing.
-use mathlib.Core.Path.{_≡_, sym, ap, _∙_}
+use mathlib.Core.Path.{_≡_, ap, _∙_}
 use native.Mathlib.Omega.{arith}
 use Rattle.sheet.specs.Bytes.{wordAt}
 use Prim.Native.Nat.{_+_}

@@ -3,8 +3,8 @@ use borrow.Author.Needs.{needs}
 use mathlib.Core.Bool.{false}
 use mathlib.Core.Path.{_∙_}
 use lib.ListN.{getD-replicate}
-use Rattle.sheet.specs.Enumerate.{anyBelow, each}
-use Rattle.sheet.specs.Layout.{modulesPlace, moduleCount}
+use Rattle.sheet.specs.Enumerate.{anyBelow}
+use Rattle.sheet.specs.Layout.{modulesPlace}
 use Rattle.sheet.specs.Refusal.{moduleRows, modulesSection}
 use Rattle.sheet.proofs.Rows.{passed, stopped, went-on}
 use Rattle.refusals.specs.Rest.{fromStarts}
@@ -36,7 +36,7 @@ after-modules-requires c κs =
     let start = c3 .before .before .before in
     let s = start .args .s .now in
     let clear = passed (modulesSection s) _ (c3 .section .ensures .0) _ (c .before .enum-told .given .1) in
-    (start .pre .0, start .pre .1, count-bound s (modulesPlace s) 0 256 (each (moduleCount s) (moduleRows s)) clear, c3 .section .ensures .1 (c3 .section .ensures .0 ∙ clear))
+    (start .pre .0, start .pre .1, count-bound s (modulesPlace s) 0 256 (moduleRows s) clear, c3 .section .ensures .1 (c3 .section .ensures .0 ∙ clear))
 
 returns-2 : tie.Need-returns-2
 returns-2 c =

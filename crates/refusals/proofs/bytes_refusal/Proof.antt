@@ -1,8 +1,6 @@
 -- `refusals::bytes_refusal` meets its contract: the nodes' refusal stands, or what is left decides. Assumes nothing.
 use borrow.Author.Needs.{needs}
 use mathlib.Core.Path.{sym, ap, _∙_}
-use Rattle.sheet.specs.Enumerate.{each}
-use Rattle.sheet.specs.Layout.{nodeCount}
 use Rattle.sheet.specs.Refusal.{first, nodeRows, nodesSection}
 use Rattle.sheet.proofs.Rows.{passed, stopped, went-on}
 use Rattle.refusals.specs.Rest.{fromModules}
@@ -33,7 +31,7 @@ after-nodes-requires : tie.Need-after-nodes-requires
 after-nodes-requires c κs =
     let c3 = c .before .before .before in
     let s = c3 .before .before .args .s .now in
-    let bound = count-bound s 0 1 256 (each (nodeCount s) (nodeRows s)) (passed (nodesSection s) _ (c3 .section .ensures) _ (c .before .enum-told .given .1)) in
+    let bound = count-bound s 0 1 256 (nodeRows s) (passed (nodesSection s) _ (c3 .section .ensures) _ (c .before .enum-told .given .1)) in
     (c .word .ensures, rw (c .word .ensures) bound)
 
 returns-2 : tie.Need-returns-2

@@ -1,9 +1,7 @@
 -- `refusals::from_drive` meets its contract: the section's refusal stands, or what is left decides. Assumes nothing.
-use mathlib.Core.Path.{_≡_, sym, ap, _∙_}
-use native.Mathlib.Omega.{arith}
+use mathlib.Core.Path.{ap, _∙_}
 use Rattle.sheet.specs.Bytes.{wordAt}
-use Rattle.sheet.specs.Enumerate.{each}
-use Rattle.sheet.specs.Layout.{drivePlace, eventCount}
+use Rattle.sheet.specs.Layout.{drivePlace}
 use Rattle.sheet.specs.Refusal.{eventRows, driveSection}
 use Rattle.sheet.proofs.Rows.{passed, stopped, went-on}
 use Rattle.refusals.specs.Rest.{fromFirstEvents}
@@ -35,7 +33,7 @@ after-drive-requires c κs =
     let start = c3 .before .before in
     let s = start .args .s .now in
     let is = c .word .ensures ∙ ap (wordAt s) (start .pre .0) in
-    let bound = count-bound s (drivePlace s) 0 1024 (each (eventCount s) (eventRows s)) (passed (driveSection s) _ (c3 .section .ensures) _ (c .before .enum-told .given .1)) in
+    let bound = count-bound s (drivePlace s) 0 1024 (eventRows s) (passed (driveSection s) _ (c3 .section .ensures) _ (c .before .enum-told .given .1)) in
     (start .pre .0, start .pre .1, is, rw is bound, start .pre .2, start .pre .3, start .pre .4)
 
 returns-2 : tie.Need-returns-2

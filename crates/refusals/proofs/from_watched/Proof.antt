@@ -1,10 +1,9 @@
 -- `refusals::from_watched` meets its contract: the section's refusal stands, or what is left decides. Assumes nothing.
-use mathlib.Core.Path.{_≡_, sym, ap, _∙_}
+use mathlib.Core.Path.{_≡_, ap, _∙_}
 use native.Mathlib.Omega.{arith}
 use Rattle.sheet.specs.Bytes.{wordAt}
 use Prim.Native.Nat.{_≤_}
-use Rattle.sheet.specs.Enumerate.{each}
-use Rattle.sheet.specs.Layout.{watchedPlace, watchedCount}
+use Rattle.sheet.specs.Layout.{watchedPlace}
 use Rattle.sheet.specs.Refusal.{watchedRows, watchedSection, leftOverRows}
 use Rattle.sheet.proofs.Rows.{passed, stopped, went-on}
 use Rattle.refusals.proofs.CountRows.{count-bound}
@@ -18,7 +17,7 @@ count c =
     let c3 = c .before .before .before in
     let start = c3 .before .before in
     let s = start .args .s .now in
-    (c .word .ensures ∙ ap (wordAt s) (start .pre .0), count-bound s (watchedPlace s) 0 256 (each (watchedCount s) (watchedRows s)) (passed (watchedSection s) _ (c3 .section .ensures) _ (c .before .enum-told .given .1)))
+    (c .word .ensures ∙ ap (wordAt s) (start .pre .0), count-bound s (watchedPlace s) 0 256 (watchedRows s) (passed (watchedSection s) _ (c3 .section .ensures) _ (c .before .enum-told .given .1)))
 
 section-requires : tie.Need-section-requires
 section-requires c κs = search needs

@@ -1,7 +1,5 @@
 -- `refusals::left_over` meets its contract. Assumes nothing.
-use mathlib.Core.Path.{_≡_, sym}
 use borrow.Author.Tests.{lt-ltb, le-ltb}
-use Rattle.sheet.specs.Layout.{sheetEnd}
 use Rattle.sheet.specs.Refusal.{first}
 use Rattle.refusals.proofs.left_over.Statement.{statement}
 use Rattle.refusals.proofs.left_over.Tie as tie

@@ -1,6 +1,7 @@
 -- `level::Level::printed` meets its contract: the table of printed bytes, held to the definition at all four values.
 -- Assumes nothing.
-use native.Mathlib.Nat.{mod-eq-of-lt}
+use native.Mathlib.Nat.{mod-lt}
+use lib.Dec.{lit<}
 use borrow.Author.Needs.{needs}
 use Rattle.level.specs.Level.{printed}
 use Rattle.level.proofs.Computed.{entries}
@@ -14,7 +15,7 @@ array-read-result : tie.Need-array-read-result
 array-read-result c = search needs
 
 returns : tie.Need-returns
-returns c h = rw (mod-eq-of-lt h, entries 4 printed)
+returns c = rw (entries 4 printed _ _ (mod-lt (c .args .value) (lit< tt)))
 
 pub printed-spec : {M : Type 1} → statement M
 printed-spec = tie.close (tie.spec cast-result array-read-result returns)

@@ -7,9 +7,8 @@ use Rattle.sheet.specs.Enumerate.{each}
 use Rattle.sheet.specs.Outcome.{finished, outcomeOf}
 use Rattle.sheet.specs.Refusal.{first, moduleRows}
 use Rattle.sheet.specs.Wiring.{drivenBy}
-use Rattle.sheet.proofs.Rows.{none-yet, all-passed, passed, passed-each, stopped-each}
+use Rattle.sheet.proofs.Rows.{finished≢refused, none-yet, all-passed, passed, passed-each, stopped-each}
 use Rattle.refusals.specs.Flags.{Flags}
-use Rattle.refusals.proofs.ModuleRows.{not-finished}
 use Rattle.refusals.proofs.modules.module_records.Statement.{statement}
 use Rattle.refusals.proofs.modules.module_records.Tie as tie
 
@@ -43,7 +42,7 @@ returns c =
     let l = c .before .before .before .before .before in
     let e = c .enum-told2 .given .1 in (
       stopped-each (moduleRows (l .before .before .args .s .now)) _ _ (c .before .before .before .before .loop-test .taken) (l .loop .inv .1) _ (a .ensures) _ _ _ e,
-      λ r. absurd (not-finished (sym (ap outcomeOf e) ∙ r)),
+      λ r. absurd (finished≢refused (sym r ∙ ap outcomeOf e)),
     )
 
 mark-requires : tie.Need-mark-requires Inv-loop μ-loop

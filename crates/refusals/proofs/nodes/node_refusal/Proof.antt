@@ -1,47 +1,36 @@
+-- `refusals::nodes::node_refusal` meets its contract: the byte read, cut short or whole, and then its row. Assumes nothing.
 use borrow.Author.Needs.{needs}
-use mathlib.Core.Path.{_≡_, refl, sym, ap, _∙_}
+use mathlib.Core.Path.{sym, _∙_}
 use Rattle.refusals.proofs.NodeRows.{node-short, node-high, node-fine}
 use Rattle.refusals.proofs.nodes.node_refusal.Statement.{statement}
 use Rattle.refusals.proofs.nodes.node_refusal.Tie as tie
-use Rattle.refusals.proofs.nodes.node_refusal.Reads as reads
-use Rattle.refusals.proofs.nodes.node_refusal.Lts as lts
-use Rattle.sheet.proofs.node_at.Reads as node-at-reads
 
--- src/nodes.rt:15:14
 add-at : tie.Need-add-at
 add-at c = search needs
 
--- src/nodes.rt:16:30
 node-at-requires : tie.Need-node-at-requires
 node-at-requires c κs = search needs
 
--- src/nodes.rt:16:25
 enum-known-b : tie.Need-enum-known-b
 enum-known-b c = search needs
 
--- src/nodes.rt:17:35
 enum-told : tie.Need-enum-told
 enum-told c = search needs
 
--- src/nodes.rt:17:35
 cast-t6 : tie.Need-cast-t6
 cast-t6 c = search needs
 
--- src/nodes.rt:17:9
 returns : tie.Need-returns
 returns c = node-short (c .before .before .before .before .args .s .now) _ (sym (c .enum-told .given .1) ∙ c .before .before .node-at .ensures)
 
--- src/nodes.rt:20:35
 cast-t8 : tie.Need-cast-t8
 cast-t8 c = search needs
 
--- src/nodes.rt:20:9
 returns-2 : tie.Need-returns-2
 returns-2 c =
     let c2 = c .before .before in
     node-high (c2 .before .before .before .before .args .s .now) _ _ (sym (c2 .b .given .1) ∙ c2 .before .before .node-at .ensures) (c .if1 .taken)
 
--- src/nodes.rt:11:1
 returns-3 : tie.Need-returns-3
 returns-3 c =
     let c2 = c .before .before in

@@ -7,23 +7,16 @@ use Rattle.refusals.proofs.StartRows.{started-more, started-same}
 use borrow.Author.Needs.{needs}
 use Rattle.refusals.proofs.starts.mark.Statement.{statement}
 use Rattle.refusals.proofs.starts.mark.Tie as tie
-use Rattle.refusals.proofs.starts.mark.Reads as reads
-use Rattle.refusals.proofs.starts.mark.Lts as lts
-use Rattle.sheet.proofs.event_record.Reads as event-record-reads
 
--- src/starts.rt:53:9
 event-record-requires : tie.Need-event-record-requires
 event-record-requires c κs = search needs
 
--- src/starts.rt:55:20
 cast-node : tie.Need-cast-node
 cast-node c = search needs
 
--- src/starts.rt:56:9
 element-write-started : tie.Need-element-write-started
 element-write-started c = search needs
 
--- src/starts.rt:49:1
 returns : tie.Need-returns
 returns c =
     let c3 = c .before .before .before in
@@ -32,7 +25,6 @@ returns c =
     let read = c3 .event-record .ensures ∙ ap (eventRecord s) (start .pre .0) in
     (simp length-set (start .pre .1), started-more s _ (start .args .started .now) (start .pre .2) (start .pre .1) _ (ap (λ e. e .node) read) (omega arith) (sym (ap (λ e. e .tick) read) ∙ c .before .if1 .taken))
 
--- src/starts.rt:49:1
 returns-2 : tie.Need-returns-2
 returns-2 c =
     let c2 = c .before .before in

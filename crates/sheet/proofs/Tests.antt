@@ -2,14 +2,15 @@
 use borrow.Author.Tests.{ltb-true, leb-true, eqb-true, lt-ltb, le-leb, eq-eqb}
 use lib.Dec.{ltb, leb, eqb}
 use mathlib.Core.Bool.{Bool, true, false, _&&_, _||_, not, true≢false, false≢true}
-use mathlib.Core.List.{List, [], _∷_, List·Memᴰ, List·Memᴰ·head, List·Memᴰ·tail, List·Memᴰ·not-nil, List·Memᴰ·cases-cons}
-use mathlib.Core.Logic.{_↔_, _⊎_, inl, inr, Iff·rfl}
-use mathlib.Core.Path.{_≡_, refl, sym, _∙_, subst}
+use mathlib.Core.List.{List, [], _∷_, List·Memᴰ, List·Memᴰ·head, List·Memᴰ·tail, List·Memᴰ·not-nil, List·Memᴰ·cases-cons, Memᴰ·cast}
+use mathlib.Core.Logic.{_↔_, _⊎_, inl, inr}
+use mathlib.Core.Path.{_≡_, refl, subst}
 use native.Mathlib.Nat.{not-suc-le-zero}
 use native.Mathlib.Omega.{arith}
 use native.Mathlib.Decide.{ℕ-discrete}
 use Prim.Native.Nat.{ℕ, zero, suc, _≤_, _<_}
 use Rattle.sheet.specs.Enumerate.{anyOf, anyBelow}
+use Rattle.sheet.specs.Refusal.{outside}
 
 -- the test passes exactly when the proposition holds
 abbrev pub Tells : Bool → Type 0 → Type 0
@@ -86,22 +87,14 @@ tells-of f {P} t (x ∷ xs) = tells-as (tells-or (f x) (anyOf f xs) (t x) (tells
         place (inl e) = inl (subst P e (h .2))
         place (inr m) = inr (h .0, m, h .2)
 
--- The two tests by the values of what they test.
-pub below-true : (n : ℕ) (f : ℕ → Bool) → (anyBelow n f ≡ true) ↔ ((i : ℕ) × (i < n) × (f i ≡ true))
-below-true n f = tells-below n f (λ i. Iff·rfl)
+-- a number that a list has
+pub tells-member : (u : ℕ) (xs : List ℕ) → Tells (anyOf (eqb u) xs) (List·Memᴰ u xs)
+tells-member u xs = tells-as (tells-of (eqb u) (tells-eq u) xs) (λ h. Memᴰ·cast (h .2) (h .1), λ m. (u, m, refl))
 
-pub below-false : (n : ℕ) (f : ℕ → Bool) → (anyBelow n f ≡ false) ↔ ((i : ℕ) → i < n → f i ≡ false)
-below-false n f = (λ e i h. fails (f i) Iff·rfl .1 (λ t. fails (anyBelow n f) (below-true n f) .0 e (i, h, t)), λ all. fails (anyBelow n f) (below-true n f) .1 (λ h. false≢true (sym (all (h .0) (h .1)) ∙ h .2)))
+-- a count outside its range
+pub tells-outside : (least greatest n : ℕ) → Tells (outside least greatest n) (n < least ⊎ greatest < n)
+tells-outside least greatest n = tells-or (ltb n least) (ltb greatest n) (tells-lt n least) (tells-lt greatest n)
 
-pub of-true : (f : ℕ → Bool) (xs : List ℕ) → (anyOf f xs ≡ true) ↔ ((x : ℕ) × List·Memᴰ x xs × (f x ≡ true))
-of-true f xs = tells-of f (λ x. Iff·rfl) xs
-
-pub of-false : (f : ℕ → Bool) (xs : List ℕ) → (anyOf f xs ≡ false) ↔ ((x : ℕ) → List·Memᴰ x xs → f x ≡ false)
-of-false f xs = (λ e x m. fails (f x) Iff·rfl .1 (λ t. fails (anyOf f xs) (of-true f xs) .0 e (x, m, t)), λ all. fails (anyOf f xs) (of-true f xs) .1 (λ h. false≢true (sym (all (h .0) (h .1)) ∙ h .2)))
-
--- Orders that exclude one another.
+-- an order that fails
 pub at-most : {a b : ℕ} → (a < b → ⊥) → b ≤ a
 at-most h = omega arith
-
-pub not-both : {a b : ℕ} → a < b → b ≤ a → ⊥
-not-both h l = omega arith

@@ -1,0 +1,39 @@
+-- The starred examples of document 01, as one table, and its worked run whole. Assumes nothing.
+use mathlib.Core.List.{List, [], _∷_}
+use mathlib.Core.Path.{_≡_, refl}
+use Prim.Native.Nat.{ℕ}
+use Rattle.level.specs.Examples.{Hold}
+use Rattle.level.proofs.Examples.{computed}
+use Rattle.sheet.specs.declared.Event.{Event}
+use Rattle.sheet.specs.Enumerate.{anyBelow, each}
+use Rattle.sheet.specs.Loop.{leadsOver}
+use Rattle.sheet.specs.Outcome.{finished, refused}
+use Rattle.sheet.specs.Refusal.{notAboveEvent, notAboveWatched, bytesRows, rows, first, checked}
+use Rattle.network.specs.Examples.{workedSheet, memorySheet, examples}
+use Rattle.network.specs.Timeline.{given, driveCell, latest}
+use Rattle.network.specs.Working.{unworked, work, workAll, worked}
+use Rattle.network.specs.Order.{leadingTo, workingOrder}
+use Rattle.network.specs.Listing.{recordsAt}
+use Rattle.network.specs.Run.{wrote, firstTick, writtenOf, ran}
+
+pub examples-hold : Hold examples
+unfolding workingOrder leadingTo leadsOver anyBelow each given driveCell latest unworked work workAll worked
+examples-hold = computed _ tt
+
+-- both sheets are accepted
+pub accepted-examples : (checked workedSheet ≡ finished 0) × (checked memorySheet ≡ finished 0)
+unfolding checked rows bytesRows first notAboveEvent notAboveWatched leadsOver anyBelow each
+accepted-examples = (refl, refl)
+
+abbrev listed : ℕ → ℕ → ℕ → Event
+listed t v x = record { tick = t; node = v; value = x }
+
+-- the worked run, from its bytes: a buffer of 36 bytes takes its six records
+pub worked-run : ran workedSheet 12 36 ≡ wrote (finished 6) (listed 0 0 0 ∷ listed 0 1 2 ∷ listed 3 1 1 ∷ listed 5 0 1 ∷ listed 8 1 0 ∷ listed 11 1 1 ∷ [])
+unfolding checked rows bytesRows first notAboveEvent notAboveWatched workingOrder leadingTo leadsOver anyBelow each given driveCell latest unworked work workAll worked recordsAt firstTick writtenOf ran
+worked-run = refl
+
+-- 35 give refusal 19 at tick 11 with 5 records
+pub short-run : ran workedSheet 12 35 ≡ wrote (refused 19 11 5) (listed 0 0 0 ∷ listed 0 1 2 ∷ listed 3 1 1 ∷ listed 5 0 1 ∷ listed 8 1 0 ∷ [])
+unfolding checked rows bytesRows first notAboveEvent notAboveWatched workingOrder leadingTo leadsOver anyBelow each given driveCell latest unworked work workAll worked recordsAt firstTick writtenOf ran
+short-run = refl

@@ -1,0 +1,35 @@
+-- Document 01, "Examples": the cells marked * to be proved, which join the gates' in one table.
+use mathlib.Core.List.{List, [], _∷_, _++_}
+use Prim.Native.Nat.{ℕ}
+use Rattle.level.specs.Level.{low, high, unknown}
+use Rattle.level.specs.Examples.{Example, is, gateExamples}
+use Rattle.network.specs.Run.{cellsOf}
+
+-- the worked run's sheet: node 0 is an input, and a NAND of delay 3 drives node 1 from node 0 and node 1
+abbrev pub workedSheet : List ℕ
+workedSheet =
+    2 ∷ 0 ∷ 4 ∷ 2
+    ∷ 1 ∷ 0 ∷ 6 ∷ 0 ∷ 1 ∷ 0 ∷ 1 ∷ 3 ∷ 0
+    ∷ 2 ∷ 0 ∷ 0 ∷ 0 ∷ 0 ∷ 0 ∷ 0 ∷ 0 ∷ 5 ∷ 0 ∷ 0 ∷ 0 ∷ 0 ∷ 1
+    ∷ 2 ∷ 0 ∷ 0 ∷ 1 ∷ []
+
+-- a memory with set {1} and delay 1 drives node 2; both its inputs, nodes 0 and 1, go from 0 to 1 at tick 4
+abbrev pub memorySheet : List ℕ
+memorySheet =
+    3 ∷ 0 ∷ 4 ∷ 4 ∷ 0
+    ∷ 1 ∷ 0 ∷ 9 ∷ 2 ∷ 2 ∷ 0 ∷ 1 ∷ 1 ∷ 0
+    ∷ 4 ∷ 0 ∷ 0 ∷ 0 ∷ 0 ∷ 0 ∷ 0 ∷ 0 ∷ 0 ∷ 0 ∷ 0 ∷ 0 ∷ 1 ∷ 0 ∷ 4 ∷ 0 ∷ 0 ∷ 0 ∷ 0 ∷ 1 ∷ 4 ∷ 0 ∷ 0 ∷ 0 ∷ 1 ∷ 1
+    ∷ 1 ∷ 0 ∷ 2 ∷ []
+
+abbrev pub cellExamples : List Example
+cellExamples =
+    is (cellsOf workedSheet 12 2 1) unknown
+    ∷ is (cellsOf workedSheet 12 7 1) high
+    ∷ is (cellsOf workedSheet 12 8 1) low
+    ∷ is (cellsOf workedSheet 12 11 1) high
+    ∷ is (cellsOf memorySheet 6 5 2) high
+    ∷ []
+
+-- the one table
+abbrev pub examples : List Example
+examples = gateExamples ++ cellExamples

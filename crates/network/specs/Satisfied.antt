@@ -1,0 +1,12 @@
+-- Document 01, "Working and renumbering": a set of timelines gives every node one cell for each tick below the horizon.
+-- It satisfies the sheet if each input's cells are those of the drive and each driven node's cells those of its equation, initial values included.
+use lib.Dec.{T}
+use mathlib.Core.Path.{_≡_}
+use Prim.Native.Nat.{ℕ, _<_}
+use Rattle.format.specs.Sheet.{Sheet}
+use Rattle.network.specs.Parts.{moduleTotal, outputOf, isInputIn}
+use Rattle.network.specs.Timeline.{Cells, driveCell, equation}
+
+pub record Satisfied (S : Sheet) (horizon : ℕ) (c : Cells) : Type 0 where
+  pub inputs : (t v : ℕ) → t < horizon → T (isInputIn S v) → c t v ≡ driveCell (S .drive) v t
+  pub modules : (t m : ℕ) → t < horizon → m < moduleTotal S → c t (outputOf S m) ≡ equation S c m t

@@ -1,0 +1,1 @@
+// Cells, working, renumbering and the listing: definitions and theorems alone.

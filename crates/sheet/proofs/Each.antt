@@ -1,0 +1,31 @@
+-- What is put in a row for each number below a bound: what stands in it, and two that are the same. Assumes nothing.
+use mathlib.Core.List.{List, _++_, List·Memᴰ, List·Memᴰ·not-nil, List·Memᴰ·append-cases, Memᴰ·append-left, Memᴰ·append-right}
+use mathlib.Core.Logic.{_↔_, _⊎_, inl, inr}
+use mathlib.Core.Path.{_≡_, refl, ap₂, subst}
+use native.Mathlib.Decide.{ℕ-discrete}
+use native.Mathlib.Nat.{not-suc-le-zero, le-step, lt-suc-self}
+use native.Mathlib.Omega.{arith}
+use Prim.Native.Nat.{ℕ, zero, suc, _<_}
+use Rattle.sheet.specs.Enumerate.{each}
+
+pub each-mem {ℓ} : {A : Type ℓ} {a : A} (n : ℕ) (f : ℕ → List A) → List·Memᴰ a (each n f) ↔ ((i : ℕ) × (i < n) × List·Memᴰ a (f i))
+unfolding each
+each-mem zero f = (λ m. absurd (List·Memᴰ·not-nil m), λ h. absurd (not-suc-le-zero (h .1)))
+each-mem {A} {a} (suc n) f = (λ m. below (each-mem n f .0) (List·Memᴰ·append-cases (each n f) m), λ h. place (each-mem n f .1) h (ℕ-discrete (h .0) n))
+  where
+    Found : ℕ → Type ℓ
+    Found k = (i : ℕ) × (i < k) × List·Memᴰ a (f i)
+
+    below : (List·Memᴰ a (each n f) → Found n) → List·Memᴰ a (each n f) ⊎ List·Memᴰ a (f n) → Found (suc n)
+    below before (inl m) = let h = before m in (h .0, omega (arith, h .1), h .2)
+    below before (inr m) = (n, omega arith, m)
+
+    place : (Found n → List·Memᴰ a (each n f)) → (h : Found (suc n)) → Dec (h .0 ≡ n) → List·Memᴰ a (each n f ++ f n)
+    place before h (yes e) = Memᴰ·append-right (each n f) (subst (λ i. List·Memᴰ a (f i)) e (h .2))
+    place before h (no d) = Memᴰ·append-left (f n) (before (h .0, omega (arith, h .1), h .2))
+
+-- what is the same below the bound
+pub each-same {ℓ} : {A : Type ℓ} (n : ℕ) (f g : ℕ → List A) → ((k : ℕ) → k < n → f k ≡ g k) → each n f ≡ each n g
+unfolding each
+each-same zero f g h = refl
+each-same (suc n) f g h = ap₂ _++_ (each-same n f g (λ k l. h k (le-step l))) (h n (lt-suc-self n))
