@@ -11,7 +11,7 @@ use Prim.Native.Nat.{ℕ, zero, suc, _+_, _-_, _≤_, _<_}
 use Rattle.level.specs.Choice.{if_then_else_}
 use Rattle.level.specs.Level.{low, high, unknown, none}
 use Rattle.level.specs.Gate.{counted, buffer, inverter, and, or, xor, nand, nor, clockedInverter, member, either, both}
-use Rattle.level.specs.Rule.{Rule, fixed, one, two, hold, inputsOf}
+use Rattle.level.specs.Rule.{Rule, fixed, one, two, hold, inputsOf, comesTo}
 use Rattle.level.specs.Kind.{ruleOf}
 use Rattle.sheet.specs.declared.Module.{Module}
 use Rattle.sheet.specs.declared.Event.{Event}
@@ -89,6 +89,16 @@ rule-gives (suc kind) parameter h = one-of gates kind
         also of-two clocked-value
         also held-value
         also none-left
+
+-- what a module of a known kind comes to over values, from a value
+pub known-value : (kind parameter : ℕ) → parameter ≤ greatestParameter kind → (a b held : ℕ) → a ≤ 3 → held ≤ 3 → comesTo (ruleOf kind parameter) a b held ≤ 3
+known-value kind parameter h a b held x y = of (rule-gives kind parameter h)
+  where
+    of : {rule : Rule} → Gives rule → comesTo rule a b held ≤ 3
+    of (fixed-value v) = v
+    of (of-one f) = f a x
+    of (of-two f) = f a b
+    of (held-value {set = set}) = either-value (set b) x y
 
 -- what a module comes to, tick by tick
 module _ (a b : Timeline) (initial : ℕ) (start : initial ≤ 3) where
