@@ -1,0 +1,4 @@
+-- What the passes of a tick rest on.
+pub mod Drive
+pub mod Fit
+pub mod Load
