@@ -23,7 +23,6 @@ pub mod Given
 pub mod Drivable
 pub mod Renumbered
 pub mod PullBack
-pub mod GroupedLength
 pub mod Grouped
 pub mod Count
 pub mod Leading

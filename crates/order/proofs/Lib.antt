@@ -6,4 +6,10 @@ pub mod Loop
 pub mod Matrix
 pub mod Marks
 pub mod Closing
+pub mod Counted
+pub mod GroupedLength
+pub mod Group
+pub mod Appending
+pub mod Ranking
+pub mod Working
 pub mod Computed
