@@ -4,17 +4,19 @@ use mathlib.Core.Path.{_≡_, refl}
 use Prim.Native.Nat.{ℕ}
 use Rattle.level.specs.Examples.{Hold}
 use Rattle.level.proofs.Examples.{computed}
+use lib.ListN.{replicate}
 use Rattle.sheet.specs.declared.Event.{Event}
 use Rattle.sheet.specs.Enumerate.{anyBelow, each}
 use Rattle.sheet.specs.Loop.{leadsOver}
 use Rattle.sheet.specs.Outcome.{finished, refused}
 use Rattle.sheet.specs.Refusal.{notAboveEvent, notAboveWatched, bytesRows, rows, first, checked}
+use Rattle.format.specs.Encode.{allBytes}
 use Rattle.network.specs.Examples.{workedSheet, memorySheet, examples}
 use Rattle.network.specs.Timeline.{given, driveCell, latest}
 use Rattle.network.specs.Working.{unworked, work, workAll, worked}
 use Rattle.network.specs.Order.{leadingTo, workingOrder}
 use Rattle.network.specs.Listing.{recordsAt}
-use Rattle.network.specs.Run.{wrote, firstTick, writtenOf, ran}
+use Rattle.network.specs.Run.{wrote, firstTick, writtenOf, ran, bufferAfter}
 
 pub examples-hold : Hold examples
 unfolding workingOrder leadingTo leadsOver anyBelow each given driveCell latest unworked work workAll worked
@@ -37,3 +39,15 @@ worked-run = refl
 pub short-run : ran workedSheet 12 35 ≡ wrote (refused 19 11 5) (listed 0 0 0 ∷ listed 0 1 2 ∷ listed 3 1 1 ∷ listed 5 0 1 ∷ listed 8 1 0 ∷ [])
 unfolding checked rows bytesRows first notAboveEvent notAboveWatched workingOrder leadingTo leadsOver anyBelow each given driveCell latest unworked work workAll worked recordsAt firstTick writtenOf ran
 short-run = refl
+
+-- and in a buffer of 38 bytes, each 99 before, the six records' bytes stand first and the last two bytes stay
+pub worked-buffer : bufferAfter (ran workedSheet 12 38 .records) (replicate 38 99)
+    ≡ 0 ∷ 0 ∷ 0 ∷ 0 ∷ 0 ∷ 0
+    ∷ 0 ∷ 0 ∷ 0 ∷ 0 ∷ 1 ∷ 2
+    ∷ 3 ∷ 0 ∷ 0 ∷ 0 ∷ 1 ∷ 1
+    ∷ 5 ∷ 0 ∷ 0 ∷ 0 ∷ 0 ∷ 1
+    ∷ 8 ∷ 0 ∷ 0 ∷ 0 ∷ 1 ∷ 0
+    ∷ 11 ∷ 0 ∷ 0 ∷ 0 ∷ 1 ∷ 1
+    ∷ 99 ∷ 99 ∷ []
+unfolding checked rows bytesRows first notAboveEvent notAboveWatched workingOrder leadingTo leadsOver anyBelow each given driveCell latest unworked work workAll worked recordsAt firstTick writtenOf ran bufferAfter allBytes
+worked-buffer = refl

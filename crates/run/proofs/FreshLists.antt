@@ -28,6 +28,17 @@ module _ (values shown : List ℕ) where
       let parts : take k watched ++ drop k (take n watched) ≡ take n watched = rw (take-take k n watched h) at (take-append-drop k (take n watched)) in
       omega (arith, simp (fresh-append, length-append) at (ap (λ vs. length (fresh t values shown vs)) parts))
 
+  -- no more records than watched nodes
+  pub fresh-few : (t : ℕ) (vs : List ℕ) → length (fresh t values shown vs) ≤ length vs
+  unfolding fresh
+  fresh-few t [] = omega arith
+  fresh-few t (v ∷ vs) = at (eqb (getD values v 0) (getD shown v 0)) (fresh-few t vs)
+    where
+      at : (b : Bool) → length (fresh t values shown vs) ≤ length vs
+          → length (if b then fresh t values shown vs else record { tick = t; node = v; value = getD values v 0 } ∷ fresh t values shown vs) ≤ suc (length vs)
+      at true h = omega arith
+      at false h = omega arith
+
   -- The watched node number k is v.
   module _ (watched : List ℕ) (k v : ℕ) (h : k < length watched) (is : v ≡ getD watched k 0) where
     -- it has its value shown already,

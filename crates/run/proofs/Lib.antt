@@ -7,3 +7,8 @@ pub mod Pending
 pub mod Drive
 pub mod Loading
 pub mod Loaded
+pub mod GateRows
+pub mod Quiet
+pub mod Worked
+pub mod Going
+pub mod Begun

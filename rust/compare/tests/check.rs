@@ -1,9 +1,9 @@
 //! Checking a sheet: the proved library gives the plain simulator's answers, and document 01's.
 
-use std::env;
-
+use compare::{count, hex, seed};
+use generate::sheets::{event, gate, AND, BUFFER, INVERTER};
 use generate::{by_hand, every, Generator, Size};
-use plain::{worked_run, Event, Module, Sheet, INPUT};
+use plain::{worked_run, Sheet, HIGH, INPUT, UNKNOWN};
 
 /// Asserts that both give the bytes the same answer, and gives it.
 fn agreed(sheet: &[u8], whence: &str) -> [u32; 3] {
@@ -18,25 +18,12 @@ fn agreed(sheet: &[u8], whence: &str) -> [u32; 3] {
     proved
 }
 
-fn hex(bytes: &[u8]) -> String {
-    bytes.iter().map(|byte| format!("{byte:02X}")).collect()
-}
-
-/// A number from the environment, for longer runs and other seeds.
-fn setting(name: &str, default: u64) -> u64 {
-    match env::var(name) {
-        Ok(text) => text.parse().unwrap_or_else(|_| panic!("{name}={text}")),
-        Err(_) => default,
-    }
-}
-
 #[test]
 fn generated_sheets() {
-    let seed = setting("TIMING_SEED", 1);
-    let count = setting("TIMING_COUNT", 200_000);
+    let seed = seed();
     let mut generator = Generator::new(seed);
     let mut met = [0u64; 19];
-    for place in 0..count {
+    for place in 0..count(200_000) {
         let sheet = generator.any();
         let [number, ..] = agreed(&sheet, &format!("seed {seed}, sheet {place}"));
         met[number as usize] += 1;
@@ -79,29 +66,27 @@ fn answers_worked_out_by_hand() {
 }
 
 /// An input and a module that drives node 1, which is watched.
-fn one_module(kind: u8, [first, second]: [u8; 2], delay: u16) -> Vec<u8> {
-    let module = Module {
-        kind,
-        parameter: 0,
-        output: 1,
-        first,
-        second,
-        delay,
-    };
+fn one_module(kind: u8, inputs: [u8; 2], delay: u16) -> Vec<u8> {
     let mut sheet = plain::read(worked_run::SHEET).expect("it is accepted");
-    sheet.modules = vec![module];
+    sheet.modules = vec![gate(kind, inputs, 1, delay)];
     sheet.encode()
 }
 
 #[test]
 fn examples_of_document_01() {
     assert_eq!(compare::check(worked_run::SHEET), [0, 0, 0]);
-    // A buffer; the module's record stands at byte 6.
-    assert_eq!(compare::check(&one_module(1, [0, 0], 10_000)), [0, 0, 0]);
-    assert_eq!(compare::check(&one_module(1, [0, 0], 10_001)), [8, 6, 0]);
+    // The module's record stands at byte 6.
+    assert_eq!(
+        compare::check(&one_module(BUFFER, [0, 0], 10_000)),
+        [0, 0, 0]
+    );
+    assert_eq!(
+        compare::check(&one_module(BUFFER, [0, 0], 10_001)),
+        [8, 6, 0]
+    );
     // An inverter onto its own input.
-    assert_eq!(compare::check(&one_module(2, [1, 0], 1)), [0, 0, 0]);
-    assert_eq!(compare::check(&one_module(2, [1, 0], 0)), [18, 1, 0]);
+    assert_eq!(compare::check(&one_module(INVERTER, [1, 0], 1)), [0, 0, 0]);
+    assert_eq!(compare::check(&one_module(INVERTER, [1, 0], 0)), [18, 1, 0]);
 }
 
 #[test]
@@ -127,25 +112,16 @@ fn the_longest_sheets() {
 /// Node 0 is an input and each other node a zero-delay AND of the one before and node 0, but for
 /// node 1, which has the second input and the delay given. The last module is listed first.
 fn chain(second: u8, delay: u16) -> Vec<u8> {
-    let gate = |output: u8| Module {
-        kind: 3,
-        parameter: 0,
-        output,
-        first: output - 1,
-        second: if output == 1 { second } else { 0 },
-        delay: if output == 1 { delay } else { 0 },
+    let module = |output: u8| match output {
+        1 => gate(AND, [0, second], 1, delay),
+        _ => gate(AND, [output - 1, 0], output, 0),
     };
-    let mut nodes = vec![2; 256];
+    let mut nodes = vec![UNKNOWN; 256];
     nodes[0] = INPUT;
-    let first_event = Event {
-        tick: 0,
-        node: 0,
-        value: 1,
-    };
     let sheet = Sheet {
         nodes,
-        modules: (1..=u8::MAX).rev().map(gate).collect(),
-        drive: vec![first_event],
+        modules: (1..=u8::MAX).rev().map(module).collect(),
+        drive: vec![event(0, 0, HIGH)],
         watched: vec![255],
     };
     sheet.encode()

@@ -1,7 +1,9 @@
 //! Sheets with answers worked out by hand: every count and field at its limit and past it, and
 //! the order of the refusals.
 
-use plain::{Event, Module, Sheet, INPUT};
+use plain::{Module, Sheet, INPUT};
+
+use crate::sheets::{event, gate};
 
 /// A sheet and the number, place and count that checking it answers.
 pub struct Case {
@@ -38,21 +40,6 @@ pub fn cases() -> Vec<Case> {
     .into_iter()
     .flatten()
     .collect()
-}
-
-fn gate(kind: u8, [first, second]: [u8; 2], output: u8, delay: u16) -> Module {
-    Module {
-        kind,
-        parameter: 0,
-        output,
-        first,
-        second,
-        delay,
-    }
-}
-
-fn event(tick: u32, node: u8, value: u8) -> Event {
-    Event { tick, node, value }
 }
 
 /// A case that starts from [`start`].

@@ -1,21 +1,30 @@
 //! A seeded generator of network sheets, good and bad.
 //!
 //! Every stream of sheets is determined by its seed, so a failing one can be made again. The
-//! families are named and stand in files of their own; [`Generator::any`] mixes them.
+//! families are named and stand in files of their own; [`Generator::any`] mixes them, and
+//! [`Generator::run_input`] mixes what runs are given.
 
 #![forbid(unsafe_code)]
 
 pub mod by_hand;
 mod bytes;
+mod crowded;
 pub mod every;
 mod fault;
+mod gates;
+pub mod limits;
 mod mixture;
 mod random;
 mod reorder;
+mod room;
 mod run;
+mod run_mixture;
+pub mod sheets;
 mod valid;
 mod zero_delay;
 
+pub use room::{room_for_all, Room};
+pub use run_mixture::RunInput;
 pub use valid::Size;
 pub use zero_delay::ZeroDelay;
 

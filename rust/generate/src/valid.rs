@@ -46,9 +46,18 @@ const KINDS: &[u8] = &[0, 1, 2, 2, 3, 4, 5, 5, 6, 6, 7, 7, 8, 9, 9];
 impl Generator {
     /// A sheet that is accepted.
     pub fn valid(&mut self, size: Size) -> Sheet {
+        self.valid_in_style(size, Generator::style)
+    }
+
+    /// A sheet that is accepted and does much within its first ticks.
+    pub fn lively(&mut self, size: Size) -> Sheet {
+        self.valid_in_style(size, Generator::lively_style)
+    }
+
+    fn valid_in_style(&mut self, size: Size, style: fn(&mut Generator, Size) -> Style) -> Sheet {
         let nodes = self.node_count(size);
         let modules = self.module_count(size, nodes);
-        let style = self.style(size);
+        let style = style(self, size);
         // The nodes in some order, the driven ones first. A zero-delay module takes its inputs
         // from before its output or from nodes that no zero-delay module drives.
         let order = self.permutation(nodes);
@@ -94,6 +103,15 @@ impl Generator {
             longest_delay: self.random.pick(&[1, 3, 10, 100, 10_000]),
             last_tick: self.random.pick(&last_ticks),
             levels: self.random.pick(&[DEFINED, MIXED]),
+        }
+    }
+
+    fn lively_style(&mut self, _: Size) -> Style {
+        Style {
+            zero_delays: self.random.pick(&[0, 20, 50, 80]),
+            longest_delay: self.random.pick(&[1, 3, 10, 30]),
+            last_tick: self.random.pick(&[8, 30, 60]),
+            levels: self.random.pick(&[DEFINED, DEFINED, MIXED]),
         }
     }
 

@@ -1,5 +1,7 @@
 //! The plain simulator held against document 01's statements, over many valid sheets.
 
+use generate::limits::RECORD_BYTES;
+use generate::sheets::{records, MEMORY};
 use generate::{Generator, Size};
 use plain::{in_set, renumbered, renumbered_listing, rule, Answer, Event, Module, Sheet};
 
@@ -7,7 +9,7 @@ use plain::{in_set, renumbered, renumbered_listing, rule, Answer, Event, Module,
 const UNTOUCHED: u8 = 0xA5;
 
 /// Room for every record of the sheets and horizons below.
-const AMPLE: usize = 6 * 256 * 150;
+const AMPLE: usize = RECORD_BYTES * 256 * 150;
 
 /// Calls `judge` with sheets of several sizes, a horizon that runs, and the generator.
 fn over_valid_sheets(seed: u64, mut judge: impl FnMut(&mut Generator, &Sheet, u32)) {
@@ -38,16 +40,8 @@ fn full_listing(sheet: &Sheet, horizon: u32) -> Vec<u8> {
     let [0, 0, count] = answer else {
         panic!("refused {answer:?}: {sheet:?}");
     };
-    listing.truncate(6 * count as usize);
+    listing.truncate(RECORD_BYTES * count as usize);
     listing
-}
-
-fn records(listing: &[u8]) -> Vec<(u32, u8, u8)> {
-    let (records, _) = listing.as_chunks();
-    let record = |&[b0, b1, b2, b3, node, value]: &[u8; 6]| {
-        (u32::from_le_bytes([b0, b1, b2, b3]), node, value)
-    };
-    records.iter().map(record).collect()
 }
 
 /// The cell that a set of timelines must have by the node's equation.
@@ -62,7 +56,7 @@ fn by_equation(sheet: &Sheet, cells: &[Vec<u8>], node: u8, tick: usize) -> u8 {
     let seen = tick - usize::from(module.delay);
     let first = &cells[usize::from(module.first)];
     let second = &cells[usize::from(module.second)];
-    if module.kind == 9 {
+    if module.kind == MEMORY {
         let mut held = (0..=seen).filter(|&u| in_set(module.parameter, second[u]));
         held.next_back().map_or(initial, |u| first[u])
     } else {
@@ -148,7 +142,7 @@ fn a_short_buffer_takes_whole_ticks() {
         let (answer, left) = run(sheet, horizon, length);
         let all = records(&listing);
         // The first record without room names the tick; that tick's records are left out.
-        let expected = match all.get(length / 6) {
+        let expected = match all.get(length / RECORD_BYTES) {
             None => [0, 0, all.len() as u32],
             Some(&(tick, ..)) => {
                 refused += 1;
@@ -157,7 +151,7 @@ fn a_short_buffer_takes_whole_ticks() {
             }
         };
         assert_eq!(answer, expected, "{length} bytes: {sheet:?}");
-        let (written, rest) = left.split_at(6 * answer[2] as usize);
+        let (written, rest) = left.split_at(RECORD_BYTES * answer[2] as usize);
         assert_eq!(written, &listing[..written.len()]);
         assert!(rest.iter().all(|&byte| byte == UNTOUCHED));
     });

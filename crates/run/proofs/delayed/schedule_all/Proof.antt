@@ -10,11 +10,11 @@ use Rattle.run.proofs.delayed.schedule_all.Statement.{statement}
 use Rattle.run.proofs.delayed.schedule_all.Tie as tie
 
 abbrev Inv-loop : tie.InvT-loop
-Inv-loop table delays n t horizon values last₀ pending₀ count k₀ c₀ last pending k c =
+Inv-loop gates table delays n t horizon values last₀ pending₀ count k₀ c₀ last pending k c =
     (k ≤ n) × (c ≤ count + k) × (scheduled last (take c pending) ≡ schedule table delays t horizon values k (scheduled last₀ (take count pending₀))) × (length pending ≡ 4352) × Levels last
 
 abbrev μ-loop : tie.MeasureT-loop
-μ-loop table delays n t horizon values last₀ pending₀ count k₀ c₀ last pending k c = n - k
+μ-loop gates table delays n t horizon values last₀ pending₀ count k₀ c₀ last pending k c = n - k
 
 loop-holds : tie.Need-loop-holds Inv-loop μ-loop
 loop-holds c =
@@ -25,7 +25,7 @@ schedule-one-requires : tie.Need-schedule-one-requires Inv-loop μ-loop
 schedule-one-requires c κs =
     let t = c .before .before .before in
     let p = t .before .pre in
-    (omega arith, p .1 (t .loop .k) (omega arith), p .2, p .3, p .4, t .loop .inv .4, t .loop .inv .3, omega arith)
+    (omega arith, p .1 (t .loop .k) (omega arith), p .2, p .3, p .4, t .loop .inv .4, t .loop .inv .3, omega arith, p .8)
 
 add-k : tie.Need-add-k Inv-loop μ-loop
 add-k c = omega arith

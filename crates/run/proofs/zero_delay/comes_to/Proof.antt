@@ -48,7 +48,7 @@ rule-requires c κs =
     let t = c .before .before .before .before .before .before .before .before .before in
     let p = t .pre in
     let e = kind-byte (t .args .table .now) (t .args .k) in
-    (rw (← e) (p .1 .kind), rw (← e) (p .1 .parameter), p .2 .each _, p .2 .each _, p .3 .each _)
+    (rw (← e) (p .1 .kind), rw (← e) (p .1 .parameter), p .2 .each _, p .2 .each _, p .3 .each _, p .4)
 
 returns : tie.Need-returns
 returns c =

@@ -35,14 +35,16 @@ returns-3 c =
     memory-held (a .parameter) (a .first) (a .second) (a .held) (a .kind) (p .1) (c .before .before .if2 .taken) (λ _ small. c .before .in-set .ensures ∙ ap (member (a .parameter)) (whole-level (a .second) small)) (c .if3 .left) (p .3) (p .4)
 
 gate-requires : tie.Need-gate-requires
-gate-requires c κs = search needs
+gate-requires c κs =
+    let p = c .before .before .pre in
+    (p .5, omega arith, omega arith, p .2, p .3)
 
 returns-4 : tie.Need-returns-4
 returns-4 c =
     let t = c .before .before .before in
     let a = t .args in
     let p = t .pre in
-    gate (a .parameter) (a .first) (a .second) (a .held) (a .kind) (p .1) (omega arith) (omega arith) (p .2) (p .3) (p .4) (c .gate .ensures (omega arith) (omega arith) (p .2) (p .3))
+    gate (a .parameter) (a .first) (a .second) (a .held) (a .kind) (p .1) (omega arith) (omega arith) (p .2) (p .3) (p .4) (c .gate .ensures)
 
 pub rule-spec : {M : Type 1} → statement M
 rule-spec =

@@ -9,11 +9,11 @@ use Rattle.run.proofs.zero_delay.settle_all.Statement.{statement}
 use Rattle.run.proofs.zero_delay.settle_all.Tie as tie
 
 abbrev Inv-loop : tie.InvT-loop
-Inv-loop table from to values₀ last₀ k₀ values last k =
+Inv-loop gates table from to values₀ last₀ k₀ values last k =
     (from ≤ k) × (k ≤ to) × (settled values last ≡ settle table from (k - from) (settled values₀ last₀)) × Levels values × Levels last
 
 abbrev μ-loop : tie.MeasureT-loop
-μ-loop table from to values₀ last₀ k₀ values last k = to - k
+μ-loop gates table from to values₀ last₀ k₀ values last k = to - k
 
 loop-holds : tie.Need-loop-holds Inv-loop μ-loop
 loop-holds c =
@@ -23,7 +23,7 @@ loop-holds c =
 settle-one-requires : tie.Need-settle-one-requires Inv-loop μ-loop
 settle-one-requires c κs =
     let t = c .before .before .before in
-    (omega arith, t .before .pre .2 (t .loop .k) (omega arith), t .loop .inv .3, t .loop .inv .4)
+    (omega arith, t .before .pre .2 (t .loop .k) (omega arith), t .loop .inv .3, t .loop .inv .4, t .before .pre .5)
 
 add-k : tie.Need-add-k Inv-loop μ-loop
 add-k c = omega arith

@@ -1,0 +1,2 @@
+-- The program: its input and what it prints.
+pub mod Program

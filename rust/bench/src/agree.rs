@@ -1,0 +1,54 @@
+//! All simulators agree on generated sheets before any is timed.
+
+use generate::sheets::MEMORY;
+use generate::{Generator, Size};
+use plain::Sheet;
+
+use crate::outside::Simulator;
+use crate::same;
+use crate::timed::{self, Run};
+
+/// The library, the same algorithm in safe Rust and the plain simulator over any inputs.
+pub fn ours() {
+    let runs = [
+        ("the library", compare::run as Run),
+        ("safe Rust", same::run),
+    ];
+    let mut generator = Generator::new(1);
+    for place in 0..10_000 {
+        let input = generator.run_input();
+        let length = generator.buffer_length();
+        let outcome = |run: Run| {
+            let mut listing = vec![0xA5; length];
+            (run(&input.sheet, input.horizon, &mut listing), listing)
+        };
+        let plain = outcome(timed::plain);
+        for (name, run) in runs {
+            assert!(outcome(run) == plain, "{name}, input {place}");
+        }
+    }
+}
+
+/// A simulator that is not ours over sheets that are translated for it.
+pub fn translations(simulator: &Simulator) {
+    let (sheets, horizon) = (100, 100);
+    let mut generator = Generator::new(2);
+    let mut translated = 0;
+    while translated < sheets {
+        let sheet = generator.lively(Size::Small);
+        if sheet.watched.is_empty() || could_catch(&sheet) {
+            continue;
+        }
+        let ours = timed::run(timed::plain, 1, &sheet, horizon).records;
+        let theirs = simulator.run(&sheet, horizon).expect(simulator.name);
+        assert!(theirs.records == ours, "{}: {sheet:?}", simulator.name);
+        translated += 1;
+    }
+}
+
+/// Whether a memory might see values that pass inside a tick, which it would catch there.
+fn could_catch(sheet: &Sheet) -> bool {
+    let has_memory = sheet.modules.iter().any(|module| module.kind == MEMORY);
+    let has_zero_delay = sheet.modules.iter().any(|module| module.delay == 0);
+    has_memory && has_zero_delay
+}

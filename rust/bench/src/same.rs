@@ -1,0 +1,61 @@
+//! The library's algorithm in safe Rust: what the same passes over the same arrays cost when a
+//! compiler, and not a proof, sees to it that no index leaves its array.
+//!
+//! The passes of a tick are those of the library's crate `run`, in its order: the drive's events,
+//! the changes due, the modules of delay zero in working order, the delayed modules, whose new
+//! results are scheduled, the count of the records, the records, and the values now shown. The
+//! arrays are its arrays: 8 bytes a module in working order, the delays, the laid-out rules, the
+//! values, what each module came to last, and one flat list of pending changes, each in 32 bits.
+//!
+//! Both sides are compiled by LLVM at -O3 for the x86-64 that all machines have, each as one
+//! module: the library so by its own tool, this side by the workspace's release profile (fat LTO,
+//! one codegen unit). Neither tests for overflow: the library has proved that there is none, and a
+//! release build of Rust leaves the test out. Only this side tests indices, where rustc cannot see
+//! that they are good.
+//!
+//! Reading the sheet is left to the plain simulator: a few milliseconds of a run.
+
+mod changes;
+mod order;
+mod tables;
+mod tick;
+
+use generate::limits::{LAST_HORIZON, MOST_PENDING, RECORD_BYTES};
+use plain::Sheet;
+
+use tick::Tick;
+
+/// Runs the sheet as the library does.
+pub fn run(sheet: &[u8], horizon: u32, listing: &mut [u8]) -> [u32; 3] {
+    if horizon == 0 || horizon > LAST_HORIZON {
+        return [1, 0, 0];
+    }
+    match plain::read(sheet) {
+        Ok(sheet) => ticks(&sheet, horizon, listing),
+        Err(refusal) => refusal.triple(),
+    }
+}
+
+/// The ticks in turn, until one is refused or the horizon is reached.
+fn ticks(sheet: &Sheet, horizon: u32, listing: &mut [u8]) -> [u32; 3] {
+    let room = listing.len() / RECORD_BYTES;
+    let mut written = 0;
+    let mut state = Tick::new(sheet, horizon);
+    for tick in 0..horizon {
+        let pending = state.work(tick);
+        let fresh = state.count_fresh();
+        if room < written + fresh {
+            return [19, tick, written as u32];
+        }
+        if fresh > 0 {
+            let records = RECORD_BYTES * written..RECORD_BYTES * (written + fresh);
+            state.write_fresh(tick, &mut listing[records]);
+            state.show_all();
+            written += fresh;
+        }
+        if pending > MOST_PENDING {
+            return [20, tick, written as u32];
+        }
+    }
+    [0, 0, written as u32]
+}

@@ -1,0 +1,123 @@
+//! One tick: the modules are worked, and then the tick's records are listed.
+
+use generate::limits::RECORD_BYTES;
+use plain::{Event, Sheet, INPUT, UNKNOWN};
+
+use super::changes::Changes;
+use super::tables::Tables;
+
+/// No value: a node that has not been shown.
+const NOT_SHOWN: u8 = 4;
+
+/// What a run keeps from tick to tick.
+pub struct Tick<'a> {
+    horizon: u32,
+    tables: Tables,
+    /// The events that are still to come.
+    drive: &'a [Event],
+    watched: &'a [u8],
+    /// The present value of each node.
+    values: [u8; 256],
+    /// What each module came to last, by position.
+    last: [u8; 256],
+    /// The value of each watched node that was listed last.
+    shown: [u8; 256],
+    changes: Changes,
+}
+
+impl<'a> Tick<'a> {
+    pub fn new(sheet: &'a Sheet, horizon: u32) -> Tick<'a> {
+        let tables = Tables::new(sheet);
+        let mut values = [0; 256];
+        for (value, &byte) in values.iter_mut().zip(&sheet.nodes) {
+            *value = if byte == INPUT { UNKNOWN } else { byte };
+        }
+        let mut last = [0; 256];
+        for (last, output) in last.iter_mut().zip(tables.outputs()) {
+            *last = values[usize::from(output)];
+        }
+        Tick {
+            horizon,
+            tables,
+            drive: &sheet.drive,
+            watched: &sheet.watched,
+            values,
+            last,
+            shown: [NOT_SHOWN; 256],
+            changes: Changes::new(),
+        }
+    }
+
+    /// Works the modules. Answers how many changes are pending then.
+    pub fn work(&mut self, tick: u32) -> usize {
+        self.drive_all(tick);
+        self.changes.apply_due(tick, &self.tables, &mut self.values);
+        self.settle_all();
+        self.schedule_all(tick);
+        self.changes.count()
+    }
+
+    fn drive_all(&mut self, tick: u32) {
+        while let [event, rest @ ..] = self.drive {
+            if event.tick != tick {
+                return;
+            }
+            self.values[usize::from(event.node)] = event.value;
+            self.drive = rest;
+        }
+    }
+
+    /// Works the modules of delay zero in their order.
+    fn settle_all(&mut self) {
+        let (from, modules) = self.tables.zero_delay();
+        for (module, last) in modules.iter().zip(&mut self.last[from..]) {
+            let value = self.tables.comes_to(module, &self.values, *last);
+            let [_, _, output, ..] = *module;
+            self.values[usize::from(output)] = value;
+            *last = value;
+        }
+    }
+
+    /// Schedules what each delayed module comes to, if that differs from what it came to last.
+    fn schedule_all(&mut self, tick: u32) {
+        let delayed = self.tables.delayed().zip(&mut self.last).enumerate();
+        for (position, ((module, delay), last)) in delayed {
+            let value = self.tables.comes_to(module, &self.values, *last);
+            if value == *last {
+                continue;
+            }
+            *last = value;
+            let due = tick + u32::from(delay);
+            if due < self.horizon {
+                self.changes.add(due, position, value);
+            }
+        }
+    }
+
+    fn is_fresh(&self, node: u8) -> bool {
+        self.values[usize::from(node)] != self.shown[usize::from(node)]
+    }
+
+    /// How many watched nodes have a value that is not the one shown last.
+    pub fn count_fresh(&self) -> usize {
+        let watched = self.watched.iter();
+        watched.filter(|&&node| self.is_fresh(node)).count()
+    }
+
+    /// Writes a record for each of them; there are as many places.
+    pub fn write_fresh(&self, tick: u32, records: &mut [u8]) {
+        let fresh = self.watched.iter().filter(|&&node| self.is_fresh(node));
+        let (places, _) = records.as_chunks_mut::<RECORD_BYTES>();
+        for (place, &node) in places.iter_mut().zip(fresh) {
+            let [b0, b1, b2, b3] = tick.to_le_bytes();
+            *place = [b0, b1, b2, b3, node, self.values[usize::from(node)]];
+        }
+    }
+
+    /// The values of the watched nodes are now shown.
+    pub fn show_all(&mut self) {
+        for &node in self.watched {
+            self.shown[usize::from(node)] = self.values[usize::from(node)];
+        }
+    }
+}

@@ -1,0 +1,38 @@
+//! A sheet as Verilog and as VHDL, with delays that pass every pulse. What both say of it stands
+//! here.
+
+pub mod verilog;
+pub mod vhdl;
+
+use plain::{Event, Sheet};
+
+/// The value that a node begins with: a driven node's own byte, an input's event at tick 0.
+fn first_value(sheet: &Sheet, node: u8) -> u8 {
+    match sheet.driver(node) {
+        Some(_) => sheet.nodes[usize::from(node)],
+        None => {
+            let mut own = sheet.drive.iter().filter(|event| event.node == node);
+            own.next().expect("an input has an event at tick 0").value
+        }
+    }
+}
+
+/// The events of a node after tick 0.
+fn later_events(sheet: &Sheet, node: u8) -> Vec<Event> {
+    let later = |event: &&Event| event.node == node && event.tick > 0;
+    sheet.drive.iter().filter(later).copied().collect()
+}
+
+/// A name for a node that both languages take.
+fn name(node: u8) -> String {
+    format!("n{node}")
+}
+
+/// What a text says for each value in the set that a memory's parameter stands for.
+fn members(set: u8, says: impl Fn(u8) -> String) -> Vec<String> {
+    let levels = 0..4;
+    levels
+        .filter(|&level| plain::in_set(set, level))
+        .map(says)
+        .collect()
+}

@@ -1,0 +1,46 @@
+//! The C entry points. A slice passes as a pointer and a length.
+
+mod c {
+    extern "C" {
+        pub fn timing_check(sheet: *const u8, sheet_len: usize, answer: *mut [u32; 3]);
+
+        pub fn timing_run(
+            sheet: *const u8,
+            sheet_len: usize,
+            horizon: u32,
+            listing: *mut u8,
+            listing_len: usize,
+            answer: *mut [u32; 3],
+        );
+    }
+}
+
+/// No word of an answer is this large, so one that is left unwritten shows.
+const UNWRITTEN: u32 = 0xDEAD_BEEF;
+
+/// Checks the sheet. The answer is number (0 for a finished call), place and count.
+pub fn check(sheet: &[u8]) -> [u32; 3] {
+    let mut answer = [UNWRITTEN; 3];
+    // SAFETY: the entry point reads the sheet's bytes and writes the three words, and both are
+    // lent for the whole call. An empty slice's pointer is not null.
+    unsafe { c::timing_check(sheet.as_ptr(), sheet.len(), &mut answer) };
+    answer
+}
+
+/// Runs the sheet to the horizon and writes its records to the front of `listing`. The answer is
+/// number (0 for a finished run), place and count.
+pub fn run(sheet: &[u8], horizon: u32, listing: &mut [u8]) -> [u32; 3] {
+    let mut answer = [UNWRITTEN; 3];
+    // SAFETY: as above; the listing's bytes are written, too, and lent for the whole call.
+    unsafe {
+        c::timing_run(
+            sheet.as_ptr(),
+            sheet.len(),
+            horizon,
+            listing.as_mut_ptr(),
+            listing.len(),
+            &mut answer,
+        );
+    }
+    answer
+}

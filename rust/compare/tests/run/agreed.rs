@@ -1,0 +1,105 @@
+//! A run by the proved library and one by the plain simulator, over buffers that are alike.
+
+use compare::hex;
+use generate::limits::RECORD_BYTES;
+use generate::room_for_all;
+use generate::sheets::{records, Record};
+use plain::Sheet;
+
+/// Bytes before and after the lent ones, to be left alone as well.
+const GUARD: usize = 64;
+
+/// A lent buffer. No byte of it is like its neighbours, so that one written anywhere shows.
+struct Lent {
+    bytes: Vec<u8>,
+    length: usize,
+}
+
+impl Lent {
+    fn new(length: usize) -> Lent {
+        let pattern = (0..).map(|place: u32| (place.wrapping_mul(167) >> 3) as u8 ^ 0xA5);
+        Lent {
+            bytes: pattern.take(length + 2 * GUARD).collect(),
+            length,
+        }
+    }
+
+    fn lent(&mut self) -> &mut [u8] {
+        &mut self.bytes[GUARD..GUARD + self.length]
+    }
+
+    /// The records that were written, if everything else is as it was.
+    fn written(&self, count: u32) -> Option<&[u8]> {
+        let end = GUARD + RECORD_BYTES * count as usize;
+        let untouched = Lent::new(self.length);
+        let before = self.bytes[..GUARD] == untouched.bytes[..GUARD];
+        let after = self.bytes[end..] == untouched.bytes[end..];
+        (before && after).then(|| &self.bytes[GUARD..end])
+    }
+}
+
+/// A run's answer and the records that it wrote.
+#[derive(Debug, Clone, PartialEq, Eq)]
+pub struct Outcome {
+    pub answer: [u32; 3],
+    pub listing: Vec<u8>,
+}
+
+/// The run by the proved library, which must leave every byte past its records alone, also those
+/// around the lent ones.
+pub fn proved(sheet: &[u8], horizon: u32, length: usize, whence: &str) -> Outcome {
+    let mut lent = Lent::new(length);
+    let answer = compare::run(sheet, horizon, lent.lent());
+    outcome(answer, &lent, whence)
+}
+
+/// The run by the plain simulator.
+pub fn plain(sheet: &[u8], horizon: u32, length: usize, whence: &str) -> Outcome {
+    let mut lent = Lent::new(length);
+    let answer = plain::run(sheet, horizon, lent.lent()).triple();
+    outcome(answer, &lent, whence)
+}
+
+fn outcome(answer: [u32; 3], lent: &Lent, whence: &str) -> Outcome {
+    let [.., count] = answer;
+    assert!(
+        RECORD_BYTES * count as usize <= lent.length,
+        "{whence}: {answer:?}"
+    );
+    let listing = lent.written(count);
+    let listing = listing.unwrap_or_else(|| panic!("{whence}: {answer:?} and a stray byte"));
+    Outcome {
+        answer,
+        listing: listing.to_vec(),
+    }
+}
+
+/// Asserts that both give the same answer and leave the same bytes, and gives them.
+pub fn agreed(sheet: &[u8], horizon: u32, length: usize, whence: &str) -> Outcome {
+    let proved = proved(sheet, horizon, length, whence);
+    let plain = plain(sheet, horizon, length, whence);
+    assert!(
+        proved == plain,
+        "{whence}: proved {:?}, plain {:?}, first difference at byte {:?}: {length} bytes, \
+         horizon {horizon}, sheet {}",
+        proved.answer,
+        plain.answer,
+        first_difference(&proved.listing, &plain.listing),
+        hex(sheet)
+    );
+    proved
+}
+
+/// The records of a run on which both agree and which must finish.
+pub fn listed(sheet: &Sheet, horizon: u32, whence: &str) -> Vec<Record> {
+    let bytes = sheet.encode();
+    let outcome = agreed(&bytes, horizon, room_for_all(&bytes, horizon), whence);
+    let records = records(&outcome.listing);
+    assert_eq!(outcome.answer, [0, 0, records.len() as u32], "{whence}");
+    records
+}
+
+fn first_difference(one: &[u8], other: &[u8]) -> Option<usize> {
+    let common = one.iter().zip(other).position(|(a, b)| a != b);
+    common.or_else(|| (one.len() != other.len()).then(|| one.len().min(other.len())))
+}

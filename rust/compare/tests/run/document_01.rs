@@ -1,0 +1,84 @@
+//! Document 01's examples that are runs.
+
+use generate::sheets::*;
+use plain::{worked_run, HIGH, INPUT, LOW, UNKNOWN};
+
+use crate::agreed::{agreed, listed, Outcome};
+
+/// The records of the worked run.
+const WORKED_RECORDS: [Record; 6] = [
+    (0, 0, 0),
+    (0, 1, 2),
+    (3, 1, 1),
+    (5, 0, 1),
+    (8, 1, 0),
+    (11, 1, 1),
+];
+
+fn worked(length: usize) -> Outcome {
+    let whence = format!("the worked run in {length} bytes");
+    agreed(worked_run::SHEET, worked_run::HORIZON, length, &whence)
+}
+
+#[test]
+fn worked_run_in_36_bytes() {
+    let Outcome { answer, listing } = worked(36);
+    assert_eq!(answer, [0, 0, 6]);
+    assert_eq!(records(&listing), WORKED_RECORDS);
+}
+
+#[test]
+fn worked_run_in_35_bytes() {
+    let Outcome { answer, listing } = worked(35);
+    assert_eq!(answer, [19, 11, 5]);
+    assert_eq!(records(&listing), WORKED_RECORDS[..5]);
+}
+
+#[test]
+fn a_tick_is_listed_whole_or_not_at_all() {
+    // Tick 0 has two records: a buffer for one takes none.
+    for (lengths, answer) in [(0..12, [19, 0, 0]), (12..18, [19, 3, 2])] {
+        for length in lengths {
+            assert_eq!(worked(length).answer, answer, "{length} bytes");
+        }
+    }
+}
+
+#[test]
+fn a_memory_takes_what_stands_when_its_set_is_met() {
+    // Both inputs go from 0 to 1 at tick 4: cell 5 is 1.
+    let drive = [(0, 0, 0), (0, 1, 0), (4, 0, 1), (4, 1, 1)];
+    let modules = [memory(0b0010, [0, 1], 2, 1)];
+    let sheet = sheet(&[INPUT, INPUT, UNKNOWN], &modules, &drive, &[2]);
+    let expected = [(0, 2, UNKNOWN), (5, 2, HIGH)];
+    assert_eq!(listed(&sheet, 8, "memory"), expected);
+}
+
+#[test]
+fn an_inverter_onto_its_own_input() {
+    let with_delay = |delay| sheet(&[LOW], &[gate(INVERTER, [0, 0], 0, delay)], &[], &[0]);
+    let toggles = [(0, 0, 0), (1, 0, 1), (2, 0, 0), (3, 0, 1)];
+    assert_eq!(listed(&with_delay(1), 4, "delay 1"), toggles);
+    let outcome = agreed(&with_delay(0).encode(), 4, 600, "delay 0");
+    assert_eq!(outcome.answer, [18, 0, 0]);
+}
+
+/// The six gates' examples, each as a zero-delay module over two inputs.
+#[test]
+fn gates_of_values_that_are_not_known() {
+    let examples = [
+        (NAND, [0, 3], 1),
+        (AND, [1, 3], 2),
+        (OR, [1, 3], 1),
+        (XOR, [2, 2], 2),
+        (INVERTER, [3, 0], 2),
+        (CLOCKED_INVERTER, [0, 2], 3),
+    ];
+    for (kind, [first, second], expected) in examples {
+        let used = if kind == INVERTER { [0, 0] } else { [0, 1] };
+        let modules = [gate(kind, used, 2, 0)];
+        let drive = [(0, 0, first), (0, 1, second)];
+        let sheet = sheet(&[INPUT, INPUT, LOW], &modules, &drive, &[2]);
+        assert_eq!(listed(&sheet, 1, "a gate"), [(0, 2, expected)]);
+    }
+}

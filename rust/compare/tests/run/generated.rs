@@ -1,0 +1,94 @@
+//! Generated sheets, good and bad, with horizons and buffers of every sort.
+
+use compare::{count, seed};
+use generate::limits::RECORD_BYTES;
+use generate::{room_for_all, Generator, Room, RunInput};
+
+use crate::agreed::agreed;
+
+/// The records that a run would write if it were lent room for all of them.
+fn all_records(input: &RunInput) -> usize {
+    let mut listing = vec![0; room_for_all(&input.sheet, input.horizon)];
+    let [.., count] = plain::run(&input.sheet, input.horizon, &mut listing).triple();
+    count as usize
+}
+
+/// What a stream of runs met.
+#[derive(Debug, Default)]
+struct Met {
+    /// How often each number was answered; 0 for a finished run.
+    numbers: [u64; 21],
+    /// How often each sort of buffer was lent, and how often it was too short.
+    rooms: [[u64; 2]; Room::ALL.len()],
+    /// Finished runs that list a change after tick 0.
+    lively: u64,
+}
+
+impl Met {
+    fn add(&mut self, number: u32, room: Room, is_lively: bool) {
+        let sort = Room::ALL.iter().position(|&sort| sort == room);
+        let [lent, too_short] = &mut self.rooms[sort.expect("all sorts are there")];
+        self.numbers[number as usize] += 1;
+        *lent += 1;
+        *too_short += u64::from(number == 19);
+        self.lively += u64::from(number == 0 && is_lively);
+    }
+
+    /// Asserts that everything was met often. Only an exact and an ample buffer are never too
+    /// short.
+    fn assert_often(&self, seed: u64) {
+        let [finished, refused @ ..] = self.numbers;
+        assert!(finished >= 30_000, "seed {seed}: {self:?}");
+        assert!(self.lively >= 10_000, "seed {seed}: {self:?}");
+        assert!(refused.iter().all(|&n| n >= 100), "seed {seed}: {self:?}");
+        for (room, [lent, too_short]) in Room::ALL.into_iter().zip(self.rooms) {
+            let never = matches!(room, Room::Exact | Room::Ample);
+            assert!(lent >= 10_000, "seed {seed}, {room:?}: {self:?}");
+            assert_eq!(too_short == 0, never, "seed {seed}, {room:?}: {self:?}");
+        }
+    }
+}
+
+#[test]
+fn generated_runs() {
+    let seed = seed();
+    let mut inputs = Generator::new(seed);
+    // The buffers have a stream of their own, so that the program can be given the same inputs.
+    let mut buffers = Generator::new(!seed);
+    let mut met = Met::default();
+    for place in 0..count(150_000) {
+        let input = inputs.run_input();
+        let room = buffers.room();
+        let length = buffers.bytes_of(room, all_records(&input));
+        let whence = format!("seed {seed}, run {place}, {room:?}");
+        let outcome = agreed(&input.sheet, input.horizon, length, &whence);
+        met.add(outcome.answer[0], room, has_change(&outcome.listing));
+    }
+    println!("seed {seed}: {met:?}");
+    met.assert_often(seed);
+}
+
+/// Whether a record stands at a tick above 0.
+fn has_change(listing: &[u8]) -> bool {
+    let last = listing.last_chunk::<RECORD_BYTES>();
+    last.is_some_and(|record| record[..4] != [0; 4])
+}
+
+/// Buffers of every length, from none to more than enough.
+#[test]
+fn every_length() {
+    let seed = 4;
+    let mut generator = Generator::new(seed);
+    let mut runs = 0;
+    while runs < 5_000 {
+        let input = generator.run_input();
+        let records = all_records(&input);
+        if (1..=30).contains(&records) {
+            for length in 0..=RECORD_BYTES * (records + 1) + 1 {
+                let whence = format!("seed {seed}, run {runs}");
+                agreed(&input.sheet, input.horizon, length, &whence);
+                runs += 1;
+            }
+        }
+    }
+}

@@ -1,0 +1,12 @@
+//! Running a sheet: the proved library gives the plain simulator's answers and bytes, document
+//! 01's, and those that the source documents print.
+
+mod agreed;
+mod document_01;
+mod event_driven;
+mod faults;
+mod generated;
+mod limits;
+mod reading;
+mod renumbered;
+mod vectors;

@@ -1,0 +1,159 @@
+//! Sheets with their nodes renumbered and their modules listed in any order.
+
+use compare::{count, seed};
+use generate::sheets::*;
+use generate::{room_for_all, Generator, Size};
+use plain::{read, renumbered, renumbered_listing, Sheet, INPUT, LOW, UNKNOWN};
+
+use crate::agreed::proved;
+
+/// What a stream of renumbered runs met.
+#[derive(Debug, Default)]
+struct Met {
+    finished: u64,
+    full_buffers: u64,
+    crowded: u64,
+    /// Listings that change when they are renumbered.
+    moved: u64,
+}
+
+impl Met {
+    fn add(&mut self, number: u32, has_moved: bool) {
+        match number {
+            0 => self.finished += 1,
+            19 => self.full_buffers += 1,
+            20 => self.crowded += 1,
+            other => panic!("an accepted sheet is refused with {other}"),
+        }
+        self.moved += u64::from(has_moved);
+    }
+}
+
+/// An accepted sheet and a horizon at which it can be run quickly.
+fn accepted(generator: &mut Generator) -> (Sheet, u32) {
+    loop {
+        let input = generator.run_input();
+        let in_range = (1..=10_000).contains(&input.horizon);
+        if let (true, Ok(sheet)) = (in_range, read(&input.sheet)) {
+            return (sheet, input.horizon);
+        }
+    }
+}
+
+/// A sheet N, and how P is made from it.
+struct Renumbering<'a> {
+    sheet: &'a Sheet,
+    /// The new number of each node.
+    to: Vec<u8>,
+    /// The listed order of the modules.
+    order: Vec<usize>,
+}
+
+impl Renumbering<'_> {
+    /// Runs N and P in buffers of one length: the answers are equal, and P's listing is N's
+    /// renumbered and sorted again. This holds for the records that 19 and 20 leave, too, for
+    /// both end at the same tick. Gives the number of the answer, and whether the listing moved.
+    fn run_alike(&self, horizon: u32, length: usize, whence: &str) -> (u32, bool) {
+        let other = renumbered(self.sheet, &self.to, &self.order);
+        let n = proved(&self.sheet.encode(), horizon, length, whence);
+        let p = proved(&other.encode(), horizon, length, whence);
+        let Renumbering { sheet, to, order } = self;
+        assert_eq!(n.answer, p.answer, "{whence}: {sheet:?} {to:?} {order:?}");
+        let expected = renumbered_listing(&n.listing, to);
+        assert_eq!(p.listing, expected, "{whence}: {sheet:?} {to:?} {order:?}");
+        (n.answer[0], expected != n.listing)
+    }
+}
+
+/// A random renumbering, run alike in a buffer of some sort.
+fn run_alike(generator: &mut Generator, sheet: &Sheet, horizon: u32, whence: &str) -> (u32, bool) {
+    let bytes = sheet.encode();
+    let whole = room_for_all(&bytes, horizon);
+    let [.., records] = proved(&bytes, horizon, whole, whence).answer;
+    let room = generator.room();
+    let length = generator.bytes_of(room, records as usize);
+    let renumbering = Renumbering {
+        sheet,
+        to: generator.permutation(sheet.nodes.len()),
+        order: generator.order(sheet.modules.len()),
+    };
+    renumbering.run_alike(horizon, length, whence)
+}
+
+#[test]
+fn generated_sheets_renumbered() {
+    let seed = seed();
+    let mut generator = Generator::new(seed);
+    let mut met = Met::default();
+    for place in 0..count(30_000) {
+        let (sheet, horizon) = accepted(&mut generator);
+        let whence = format!("seed {seed}, sheet {place}");
+        let (number, has_moved) = run_alike(&mut generator, &sheet, horizon, &whence);
+        met.add(number, has_moved);
+    }
+    println!("seed {seed}: {met:?}");
+    assert!(met.finished >= 10_000, "seed {seed}: {met:?}");
+    assert!(met.full_buffers >= 1_000, "seed {seed}: {met:?}");
+    assert!(met.crowded >= 100, "seed {seed}: {met:?}");
+    assert!(met.moved >= 10_000, "seed {seed}: {met:?}");
+}
+
+/// One sheet of each size, in many orders.
+#[test]
+fn many_orders_of_one_sheet() {
+    let seed = 6;
+    let mut generator = Generator::new(seed);
+    for size in [Size::Small, Size::Medium, Size::Large, Size::Full] {
+        let sheet = generator.valid(size);
+        for place in 0..50 {
+            let whence = format!("seed {seed}, {size:?}, order {place}");
+            run_alike(&mut generator, &sheet, 60, &whence);
+        }
+    }
+}
+
+/// Every list of the places below `length`, each once.
+fn permutations(length: usize) -> Vec<Vec<usize>> {
+    if length == 0 {
+        return vec![Vec::new()];
+    }
+    let with_last = |shorter: Vec<usize>| {
+        (0..length).map(move |place| {
+            let mut longer = shorter.clone();
+            longer.insert(place, length - 1);
+            longer
+        })
+    };
+    let shorter = permutations(length - 1).into_iter();
+    shorter.flat_map(with_last).collect()
+}
+
+/// Gates and a memory without delay, one after the other, and a delayed gate back to the first:
+/// every numbering of the nodes with every listed order of the modules.
+#[test]
+fn every_renumbering_of_one_sheet() {
+    let modules = [
+        gate(XOR, [0, 4], 1, 0),
+        gate(INVERTER, [1, 0], 2, 0),
+        memory(0b0010, [0, 2], 3, 0),
+        gate(NAND, [3, 0], 4, 2),
+    ];
+    let drive = [(0, 0, 0), (4, 0, 1), (8, 0, 0), (9, 0, 1)];
+    let nodes = [INPUT, LOW, LOW, UNKNOWN, LOW];
+    let sheet = sheet(&nodes, &modules, &drive, &[0, 1, 2, 3, 4]);
+    let length = room_for_all(&sheet.encode(), 20);
+    let mut moved = 0;
+    for to in permutations(nodes.len()) {
+        let to: Vec<u8> = to.into_iter().map(|number| number as u8).collect();
+        for order in permutations(modules.len()) {
+            let to = to.clone();
+            let sheet = &sheet;
+            let renumbering = Renumbering { sheet, to, order };
+            let (number, has_moved) = renumbering.run_alike(20, length, "every renumbering");
+            assert_eq!(number, 0);
+            moved += u32::from(has_moved);
+        }
+    }
+    // No two nodes have the same cells, so only one numbering leaves the listing as it is.
+    assert_eq!(moved, (120 - 1) * 24);
+}

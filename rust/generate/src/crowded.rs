@@ -1,0 +1,193 @@
+//! Runs with about 4,096 changes pending where they are busiest.
+
+use plain::{renumbered, rule, Sheet, HIGH, INPUT, LOW};
+
+use crate::limits::MOST_PENDING;
+use crate::sheets::*;
+use crate::{byte, Generator, RunInput};
+
+/// The kinds that pass every change on when all their inputs are one node. A memory does so with
+/// the whole set.
+const PASSING: &[u8] = &[
+    BUFFER,
+    INVERTER,
+    AND,
+    OR,
+    NAND,
+    NOR,
+    CLOCKED_INVERTER,
+    MEMORY,
+];
+
+/// The set of all values.
+const ANY_VALUE: u8 = 15;
+
+impl Generator {
+    /// A lively node and delayed modules after it. The changes pending at the busiest tick are
+    /// often exactly at the limit or one past it.
+    pub fn crowded(&mut self) -> RunInput {
+        match self.random.between(0, 2) {
+            0 => self.many_at_an_oscillator(),
+            1 => self.many_at_an_input(),
+            _ => self.a_row(),
+        }
+    }
+
+    /// Modules that read an inverter onto its own input. Once all have passed their delays, as
+    /// many changes are pending as the delays have ticks together, and the inverter's own.
+    fn many_at_an_oscillator(&mut self) -> RunInput {
+        let modules = self.random.pick(&[1, 2, 3, 5, 16, 40, 100, 255]);
+        let delays = self.delays_near_the_limit(modules);
+        let longest = longest(&delays);
+        let settled = self.random.chance(50);
+        let mut sheet = oscillator();
+        for delay in delays {
+            self.add_passing(&mut sheet, 0, delay, settled);
+        }
+        self.numbered_anyhow(sheet, 2 * longest + 1)
+    }
+
+    /// Modules that read an input, which changes at every tick until all its changes are pending
+    /// at once: none is due before.
+    fn many_at_an_input(&mut self) -> RunInput {
+        let modules = self.random.pick(&[4, 5, 8, 16, 17, 64, 128, 241]);
+        let changes = (self.near_the_limit() / modules).min(1_023);
+        let delay = changes + self.random.between(0, 20);
+        let settled = self.random.chance(80);
+        let mut sheet = toggled_input(changes);
+        for _ in 0..modules {
+            self.add_passing(&mut sheet, 0, delay, settled);
+        }
+        for _ in 0..self.random.between(0, 5) {
+            self.add_constant(&mut sheet, delay);
+        }
+        self.numbered_anyhow(sheet, changes + delay + 1)
+    }
+
+    /// Modules in a row after an oscillator, which fill up one after the other.
+    fn a_row(&mut self) -> RunInput {
+        let modules = self.random.between(2, 5);
+        let delays = self.delays_near_the_limit(modules);
+        let longest = longest(&delays);
+        let whole: usize = delays.iter().sum();
+        let mut sheet = oscillator();
+        for delay in delays {
+            let before = byte(sheet.nodes.len() - 1);
+            self.add_passing(&mut sheet, before, delay, true);
+        }
+        self.numbered_anyhow(sheet, whole + longest + 1)
+    }
+
+    /// A number of pending changes at the limit, just past it or somewhere around.
+    fn near_the_limit(&mut self) -> usize {
+        let around = self.random.between(MOST_PENDING - 200, MOST_PENDING + 200);
+        let (last, past) = (MOST_PENDING, MOST_PENDING + 1);
+        self.random.pick(&[last, last, past, past, around])
+    }
+
+    /// So many delays, nearly alike, that come near the limit together with one change more.
+    fn delays_near_the_limit(&mut self, modules: usize) -> Vec<usize> {
+        let sum = self.near_the_limit() - 1;
+        let mut delays = vec![sum / modules; modules];
+        for delay in delays.iter_mut().take(sum % modules) {
+            *delay += 1;
+        }
+        // A tick more for one and a tick less for another leaves the sum.
+        for _ in 0..self.random.between(0, 5) {
+            let more = self.random.place(modules);
+            let less = self.random.place(modules);
+            delays[more] += 1;
+            delays[less] -= 1;
+        }
+        delays
+    }
+
+    /// Adds a module that passes on what the node does. A settled one begins as the node does.
+    fn add_passing(&mut self, sheet: &mut Sheet, node: u8, delay: usize, settled: bool) {
+        let kind = self.random.pick(PASSING);
+        let initial = if settled {
+            passed_on(kind, begins_with(sheet, node))
+        } else {
+            self.level()
+        };
+        add_module(sheet, kind, node, delay, initial);
+    }
+
+    /// Adds a constant. Its one change, if it has any, is pending from the start.
+    fn add_constant(&mut self, sheet: &mut Sheet, delay: usize) {
+        let initial = self.level();
+        add_module(sheet, CONSTANT, 0, delay, initial);
+    }
+
+    /// The sheet with some nodes watched and all numbered anyhow, and a horizon: mostly one from
+    /// `enough` on, where no change of the busiest tick is cut off.
+    fn numbered_anyhow(&mut self, mut sheet: Sheet, enough: usize) -> RunInput {
+        let percent = self.random.pick(&[0, 5, 50]);
+        let numbers = sheet.node_numbers();
+        sheet.watched = numbers.filter(|_| self.random.chance(percent)).collect();
+        let to = self.permutation(sheet.nodes.len());
+        let order = self.order(sheet.modules.len());
+        let horizon = if self.random.chance(80) {
+            self.random.between(enough, enough + 20)
+        } else {
+            self.random.between(enough / 2, enough)
+        };
+        RunInput {
+            sheet: renumbered(&sheet, &to, &order).encode(),
+            horizon: horizon as u32,
+        }
+    }
+}
+
+fn longest(delays: &[usize]) -> usize {
+    delays.iter().copied().max().expect("there is a module")
+}
+
+/// Adds a module with the node at each used input.
+fn add_module(sheet: &mut Sheet, kind: u8, node: u8, delay: usize, initial: u8) {
+    let output = byte(sheet.nodes.len());
+    let delay = u16::try_from(delay).expect("the delay has two bytes");
+    let module = match kind {
+        CONSTANT => constant(LOW, output, delay),
+        BUFFER | INVERTER => gate(kind, [node, 0], output, delay),
+        MEMORY => memory(ANY_VALUE, [node, node], output, delay),
+        _ => gate(kind, [node, node], output, delay),
+    };
+    sheet.nodes.push(initial);
+    sheet.modules.push(module);
+}
+
+/// What a passing kind makes of a value.
+fn passed_on(kind: u8, value: u8) -> u8 {
+    if kind == MEMORY {
+        value
+    } else {
+        rule(kind, 0, value, value)
+    }
+}
+
+/// An input is low at first here.
+fn begins_with(sheet: &Sheet, node: u8) -> u8 {
+    match sheet.nodes[usize::from(node)] {
+        INPUT => LOW,
+        initial => initial,
+    }
+}
+
+/// An inverter onto its own input, node 0, that changes at every tick.
+fn oscillator() -> Sheet {
+    let mut sheet = Sheet::default();
+    add_module(&mut sheet, INVERTER, 0, 1, LOW);
+    sheet
+}
+
+/// An input, node 0, that changes at each tick from 1 to `changes`.
+fn toggled_input(changes: usize) -> Sheet {
+    let level = |tick: u32| if tick.is_multiple_of(2) { LOW } else { HIGH };
+    let ticks = 0..=changes as u32;
+    Sheet {
+        nodes: vec![INPUT],
+        drive: ticks.map(|tick| event(tick, 0, level(tick))).collect(),
+        ..Sheet::default()
+    }
+}

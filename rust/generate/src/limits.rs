@@ -1,0 +1,10 @@
+//! Document 01's limits that a run meets, and the size of a record.
+
+/// The last horizon that runs.
+pub const LAST_HORIZON: u32 = 1_000_000;
+
+/// The most changes that may be pending after a tick.
+pub const MOST_PENDING: usize = 4_096;
+
+/// The bytes of a record in a listing.
+pub const RECORD_BYTES: usize = 6;

@@ -1,0 +1,69 @@
+//! Short ways to write sheets and records down.
+
+use plain::{Event, Module, Sheet};
+
+use crate::limits::RECORD_BYTES;
+
+pub const CONSTANT: u8 = 0;
+pub const BUFFER: u8 = 1;
+pub const INVERTER: u8 = 2;
+pub const AND: u8 = 3;
+pub const OR: u8 = 4;
+pub const XOR: u8 = 5;
+pub const NAND: u8 = 6;
+pub const NOR: u8 = 7;
+pub const CLOCKED_INVERTER: u8 = 8;
+pub const MEMORY: u8 = 9;
+
+/// Tick, node and value.
+pub type Record = (u32, u8, u8);
+
+/// A gate from its inputs to its output. An input that the kind lacks is 0.
+pub fn gate(kind: u8, [first, second]: [u8; 2], output: u8, delay: u16) -> Module {
+    Module {
+        kind,
+        parameter: 0,
+        output,
+        first,
+        second,
+        delay,
+    }
+}
+
+pub fn constant(value: u8, output: u8, delay: u16) -> Module {
+    Module {
+        parameter: value,
+        ..gate(CONSTANT, [0, 0], output, delay)
+    }
+}
+
+pub fn memory(set: u8, inputs: [u8; 2], output: u8, delay: u16) -> Module {
+    Module {
+        parameter: set,
+        ..gate(MEMORY, inputs, output, delay)
+    }
+}
+
+pub fn event(tick: u32, node: u8, value: u8) -> Event {
+    Event { tick, node, value }
+}
+
+pub fn sheet(nodes: &[u8], modules: &[Module], drive: &[Record], watched: &[u8]) -> Sheet {
+    let event = |&(tick, node, value): &Record| event(tick, node, value);
+    Sheet {
+        nodes: nodes.to_vec(),
+        modules: modules.to_vec(),
+        drive: drive.iter().map(event).collect(),
+        watched: watched.to_vec(),
+    }
+}
+
+/// The records of a listing's bytes.
+pub fn records(listing: &[u8]) -> Vec<Record> {
+    let (records, rest) = listing.as_chunks();
+    assert!(rest.is_empty(), "a listing is made of whole records");
+    let record = |&[b0, b1, b2, b3, node, value]: &[u8; RECORD_BYTES]| {
+        (u32::from_le_bytes([b0, b1, b2, b3]), node, value)
+    };
+    records.iter().map(record).collect()
+}

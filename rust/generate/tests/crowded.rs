@@ -1,0 +1,25 @@
+//! Crowded runs come to the limit of pending changes and past it.
+
+use generate::Generator;
+use plain::read;
+
+#[test]
+fn exactly_at_the_limit_and_one_past_it() {
+    let mut generator = Generator::new(30);
+    let (mut at_limit, mut one_past, mut below, mut past) = (0, 0, 0, 0);
+    for _ in 0..1_000 {
+        let input = generator.crowded();
+        let sheet = read(&input.sheet).expect("crowded sheets are accepted");
+        let cells = plain::cells(&sheet, input.horizon);
+        let busiest = plain::pending(&sheet, &cells).into_iter().max();
+        match busiest.expect("there is a tick") {
+            4_096 => at_limit += 1,
+            4_097 => one_past += 1,
+            ..4_096 => below += 1,
+            _ => past += 1,
+        }
+    }
+    let counts = [at_limit, one_past, below, past];
+    println!("at the limit, one past it, below, further past: {counts:?}");
+    assert!(counts.iter().all(|&runs| runs >= 50), "{counts:?}");
+}

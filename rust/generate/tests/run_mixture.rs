@@ -1,0 +1,33 @@
+//! The mixture of runs meets every refusal, and a seed gives one stream.
+
+use generate::{room_for_all, Generator, RunInput};
+
+#[test]
+fn every_refusal_but_19_is_met() {
+    let mut generator = Generator::new(31);
+    let mut met = [0u32; 21];
+    for _ in 0..20_000 {
+        let RunInput { sheet, horizon } = generator.run_input();
+        let mut ample = vec![0; room_for_all(&sheet, horizon)];
+        let [number, ..] = plain::run(&sheet, horizon, &mut ample).triple();
+        met[number as usize] += 1;
+    }
+    println!("answers by number, 0 for finished: {met:?}");
+    assert!(met[0] >= 10_000, "{met:?}");
+    assert_eq!(met[19], 0, "{met:?}");
+    let others = (1..=20).filter(|&number| number != 19);
+    for number in others {
+        assert!(met[number] >= 15, "{number}: {met:?}");
+    }
+}
+
+#[test]
+fn a_seed_gives_one_stream() {
+    let stream = |seed| {
+        let mut generator = Generator::new(seed);
+        let inputs: Vec<RunInput> = (0..1_000).map(|_| generator.run_input()).collect();
+        inputs
+    };
+    assert_eq!(stream(8), stream(8));
+    assert_ne!(stream(8), stream(9));
+}
