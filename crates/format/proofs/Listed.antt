@@ -1,5 +1,5 @@
 -- A list given by what stands at each number below its length, and the bytes of records of one size in a row. Assumes nothing.
-use mathlib.Core.List.{List, [], _∷_, _++_, append-assoc, List·Memᴰ, List·Memᴰ·head, List·Memᴰ·tail, List·Memᴰ·eq-of-singleton}
+use mathlib.Core.List.{List, [], _∷_, _++_, map, append-assoc, List·Memᴰ, List·Memᴰ·head, List·Memᴰ·tail, List·Memᴰ·eq-of-singleton}
 use mathlib.Core.Logic.{_⊎_, inl, inr}
 use mathlib.Core.Path.{_≡_, refl, sym, _∙_, subst}
 use Prim.Native.Nat.{ℕ, zero, suc, _+_, _*_, _<_}
@@ -37,6 +37,11 @@ module _ {ℓ} {A : Type ℓ} where
   getD-mem [] i d h = absurd (not-suc-le-zero h)
   getD-mem (x ∷ xs) zero d h = List·Memᴰ·head refl
   getD-mem (x ∷ xs) (suc i) d h = List·Memᴰ·tail (getD-mem xs i d (le-of-suc-le-suc h))
+
+  pub getD-map {κ} : {B : Type κ} (f : A → B) (l : List A) (k : ℕ) (a : A) (b : B) → k < length l → getD (map f l) k b ≡ f (getD l k a)
+  getD-map f [] k a b h = absurd (not-suc-le-zero h)
+  getD-map f (x ∷ xs) zero a b h = refl
+  getD-map f (x ∷ xs) (suc k) a b h = getD-map f xs k a b (le-of-suc-le-suc h)
 
   -- what holds of each entry as it is given holds of each member
   pub listed-all {κ} : (P : A → Type κ) (n : ℕ) (f : ℕ → A) → ((i : ℕ) → i < n → P (f i)) → (x : A) → List·Memᴰ x (listed n f) → P x

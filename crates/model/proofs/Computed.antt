@@ -1,5 +1,5 @@
 -- The model computes: document 01's worked run. Assumes nothing.
-use mathlib.Core.List.{List, [], _∷_}
+use mathlib.Core.List.{[], _∷_}
 use mathlib.Core.Path.{_≡_, refl}
 use Prim.Native.Nat.{ℕ}
 use Rattle.sheet.specs.declared.Event.{Event}

@@ -25,4 +25,3 @@ pub mod Buffer
 pub mod Records
 pub mod RecordsBelow
 pub mod Stands
-pub mod Outcome

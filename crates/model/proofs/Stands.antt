@@ -1,15 +1,15 @@
 -- What the run keeps stands in the cells before every tick up to the horizon: it does before tick 0, and a tick hands it on. Assumes nothing.
 use lib.ListN.{length}
 use mathlib.Core.List.{List}
-use mathlib.Core.Path.{_≡_, refl, ap, _∙_}
+use mathlib.Core.Path.{_≡_}
 use native.Mathlib.Omega.{arith}
 use Prim.Native.Nat.{ℕ, zero, suc, _<_, _≤_}
-use Rattle.sheet.specs.Layout.{nodeCount, watchedCount, watchedNode}
+use Rattle.sheet.specs.Layout.{watchedNode}
 use Rattle.format.specs.Sheet.{sheetOf}
 use Rattle.network.specs.Timeline.{Cells}
 use Rattle.network.specs.Listing.{listing, pending}
 use Rattle.model.specs.State.{State}
-use Rattle.model.specs.Ticks.{Loaded, tickOf, stateAt, recordsBelow}
+use Rattle.model.specs.Ticks.{Loaded, stateAt, recordsBelow}
 use Rattle.model.specs.Standing.{Standing}
 use Rattle.model.proofs.Setting.{Setting}
 use Rattle.model.proofs.SettleTick.{settled-cells}

@@ -6,11 +6,11 @@ use lib.ListN.{getD}
 use Rattle.level.specs.Choice.{if_then_else_}
 use Rattle.level.specs.Level.{unknown}
 use Rattle.sheet.specs.declared.Event.{Event}
-use Rattle.sheet.specs.Layout.{nodeCount, nodeByte, moduleCount, moduleOf, watchedCount, watchedNode}
+use Rattle.sheet.specs.Layout.{nodeByte, moduleOf, watchedCount, watchedNode}
 use Rattle.format.specs.Sheet.{listed}
 use Rattle.network.specs.Order.{workingOrder}
 use Rattle.model.specs.Drive.{driveTick}
-use Rattle.model.specs.Passes.{applyDue, notDue, Settled, settle, Scheduled, schedule}
+use Rattle.model.specs.Passes.{applyDue, notDue, settle, schedule}
 use Rattle.model.specs.Fresh.{fresh, showAll}
 
 pub record State : Type 0 where

@@ -1,5 +1,5 @@
 -- The starred examples of document 01, as one table, and its worked run whole. Assumes nothing.
-use mathlib.Core.List.{List, [], _∷_}
+use mathlib.Core.List.{[], _∷_}
 use mathlib.Core.Path.{_≡_, refl}
 use Prim.Native.Nat.{ℕ}
 use Rattle.level.specs.Examples.{Hold}

@@ -1,7 +1,7 @@
 -- What holds of the inputs' cells, and of a module's output's cell wherever it holds of the cells that the module reads, holds of every cell:
 -- tick by tick, and in a tick module by module in a valid order. Assumes nothing.
 use borrow.Author.Tests.{lt-ltb}
-use lib.Dec.{T, eqb, eqb→eq}
+use lib.Dec.{T}
 use mathlib.Core.Bool.{Bool, true, false, not}
 use mathlib.Core.List.{List, List·Memᴰ, List·Memᴰ·cases-cons, List·Memᴰ·not-nil, List·Memᴰ·head, List·Memᴰ·tail}
 use mathlib.Core.Logic.{_⊎_, inl, inr}

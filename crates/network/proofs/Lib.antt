@@ -28,6 +28,7 @@ pub mod Count
 pub mod Leading
 pub mod Rank
 pub mod WorkingOrder
+pub mod RecordsInOrder
 pub mod RenumberedRises
 pub mod RenumberedChains
 pub mod RenumberedAccepted
@@ -38,3 +39,5 @@ pub mod Drive
 pub mod Values
 pub mod Runs
 pub mod Demand3
+pub mod Outcome
+pub mod RunConditions

@@ -1,5 +1,4 @@
 -- A test that passes, as a type and as an equation. Assumes nothing.
-use borrow.Author.Tests.{eq-eqb, eqb-true}
 use lib.Dec.{T, eqb}
 use mathlib.Core.Bool.{Bool, true, false, _&&_}
 use mathlib.Core.Path.{_≡_, refl, sym, subst}

@@ -1,16 +1,15 @@
 -- The parts of the renumbered sheet, by number: each module and each initial value stands at its new number, a node is an input in both or in
 -- neither, and an input's cells are those of the drive in both. Assumes nothing.
-use lib.ListN.{length, getD, length-map}
+use lib.ListN.{getD, length-map}
 use borrow.Author.Tests.{lt-ltb}
 use mathlib.Core.Bool.{Bool, true, false, _&&_, not}
-use mathlib.Core.List.{List, [], _∷_, map}
+use mathlib.Core.List.{List}
 use mathlib.Core.Logic.{_↔_}
 use mathlib.Core.Path.{_≡_, refl, sym, ap, ap₂, _∙_}
-use native.Mathlib.Nat.{not-suc-le-zero, le-of-suc-le-suc}
-use Prim.Native.Nat.{ℕ, zero, suc, _<_}
+use Prim.Native.Nat.{ℕ, _<_}
 use Rattle.sheet.specs.Refusal.{key}
 use Rattle.format.specs.Sheet.{Sheet}
-use Rattle.format.proofs.Listed.{length-listed, getD-listed}
+use Rattle.format.proofs.Listed.{length-listed, getD-listed, getD-map}
 use Rattle.sheet.proofs.Tests.{Tells, tells-below, tells-eq}
 use Rattle.network.specs.Parts.{nodeTotal, moduleTotal, moduleIn, outputOf, initialOf, isDrivenIn, isInputIn, noModule}
 use Rattle.network.specs.Order.{Listed}
@@ -22,11 +21,6 @@ use Rattle.network.proofs.Listed.{position}
 use Rattle.network.proofs.Permuting.{to-once}
 use Rattle.network.proofs.Sort.{sort-map-mem}
 use Rattle.network.proofs.Given.{Gives, drive-same}
-
-getD-map {ℓ κ} : {A : Type ℓ} {B : Type κ} (f : A → B) (l : List A) (k : ℕ) (a : A) (b : B) → k < length l → getD (map f l) k b ≡ f (getD l k a)
-getD-map f [] k a b h = absurd (not-suc-le-zero h)
-getD-map f (x ∷ xs) zero a b h = refl
-getD-map f (x ∷ xs) (suc k) a b h = getD-map f xs k a b (le-of-suc-le-suc h)
 
 -- tests that tell equivalent propositions are one
 same-test : (a b : Bool) {P Q : Type 0} → Tells a P → Tells b Q → P ↔ Q → a ≡ b

@@ -8,7 +8,7 @@ use Rattle.sheet.specs.declared.Event.{Event}
 use Rattle.sheet.specs.Refusal.{key}
 use Rattle.format.specs.Sheet.{Sheet}
 use Rattle.network.specs.Timeline.{Cells}
-use Rattle.network.specs.Listing.{changes, recordOf, listing}
+use Rattle.network.specs.Listing.{changes}
 
 -- A watched node's first value, or its change, at a tick below the horizon, with that cell's value.
 pub record Shown (S : Sheet) (c : Cells) (horizon : ℕ) (r : Event) : Type 0 where

@@ -4,14 +4,14 @@ use mathlib.Core.Path.{_≡_}
 use Prim.Native.Nat.{ℕ, _<_}
 use Rattle.sheet.specs.Layout.{nodeCount}
 use Rattle.sheet.specs.Outcome.{finished}
-use Rattle.format.specs.Sheet.{Sheet, sheetOf}
+use Rattle.format.specs.Sheet.{sheetOf}
 use Rattle.network.specs.Timeline.{Cells}
 use Rattle.network.specs.Satisfied.{Satisfied}
 use Rattle.network.specs.Working.{worked}
 use Rattle.network.specs.Order.{ValidOrder}
 use Rattle.network.specs.Listing.{listing}
 use Rattle.network.specs.Run.{ran}
-use Rattle.network.specs.Renumbering.{Permutation, renumberedBytes, renumberedListing}
+use Rattle.network.specs.Renumbering.{renumberedListing}
 
 -- a sheet runs to its horizon with a buffer of so many bytes: its run answers a finished run
 pub record RunsToHorizon (s : List ℕ) (horizon bytes : ℕ) : Type 0 where

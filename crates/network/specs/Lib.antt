@@ -10,3 +10,4 @@ pub mod Renumbering
 pub mod Demand2
 pub mod Demand3
 pub mod Examples
+pub mod RunConditions

@@ -1,8 +1,7 @@
 -- The parts of a sheet by number, and what a module drives.
 use mathlib.Core.Bool.{Bool, _&&_, not}
-use mathlib.Core.List.{List, List·Memᴰ}
-use mathlib.Core.Path.{_≡_}
-use Prim.Native.Nat.{ℕ, _<_}
+use mathlib.Core.List.{List·Memᴰ}
+use Prim.Native.Nat.{ℕ}
 use lib.Dec.{eqb, ltb}
 use lib.ListN.{length, getD}
 use Rattle.level.specs.Rule.{Rule}
@@ -11,10 +10,7 @@ use Rattle.sheet.specs.declared.Module.{Module}
 use Rattle.sheet.specs.Enumerate.{anyBelow}
 use Rattle.sheet.specs.Wiring.{usedInputs}
 use Rattle.format.specs.Sheet.{Sheet}
-
--- what stands past the end
-abbrev pub noModule : Module
-noModule = record { kind = 0; parameter = 0; output = 0; first = 0; second = 0; delay = 0 }
+pub use Rattle.order.specs.Records.{noModule}
 
 abbrev pub nodeTotal : Sheet → ℕ
 nodeTotal S = length (S .nodes)

@@ -1,7 +1,7 @@
 -- Document 01, "Where each refusal is met": what a run answers and what the buffer then holds, for any bytes, horizon and buffer.
 use mathlib.Core.Bool.{Bool, _||_}
 use mathlib.Core.List.{List, [], _∷_, _++_}
-use Prim.Native.Nat.{ℕ, zero, suc, _*_, _/_}
+use Prim.Native.Nat.{ℕ, suc, _*_, _/_}
 use lib.Dec.{eqb, ltb}
 use lib.ListN.{length, drop}
 use Rattle.level.specs.Choice.{if_then_else_}

@@ -13,3 +13,7 @@ pub mod Appending
 pub mod Ranking
 pub mod Working
 pub mod Computed
+pub mod Recorded
+pub mod Stored
+pub mod RecordRow
+pub mod Lent

@@ -3,3 +3,4 @@ pub mod Links
 pub mod WorkingOrder
 pub mod Grouped
 pub mod Arranged
+pub mod Records

@@ -1,19 +1,13 @@
--- Zero-delay links between nodes: those of one module, and a matrix that says of every two nodes whether one leads to the other.
-use mathlib.Core.Bool.{Bool, false, _&&_, _||_}
+-- Zero-delay links between nodes, and a matrix that says of every two nodes whether one leads to the other.
+use mathlib.Core.Bool.{Bool, false, _||_}
 use mathlib.Core.List.{List, [], _∷_}
 use mathlib.Core.Path.{_≡_}
 use Prim.Native.Nat.{ℕ, _+_, _*_, _<_, _≤_}
-use lib.Dec.{eqb}
 use lib.ListN.{length, getD}
-use Rattle.sheet.specs.declared.Module.{Module}
-use Rattle.sheet.specs.Enumerate.{anyOf, anyBelow}
+use Rattle.sheet.specs.Enumerate.{anyBelow}
 use Rattle.sheet.specs.Layout.{moduleSize, nodeCount, moduleCount, moduleRecord}
-use Rattle.sheet.specs.Wiring.{usedInputs}
 use Rattle.sheet.specs.Refusal.{Row, _at_when_}
-
--- the module has delay 0, the first node for a used input and the second for its output
-abbrev pub links : Module → ℕ → ℕ → Bool
-links m u v = eqb (m .delay) 0 && eqb (m .output) v && anyOf (eqb u) (usedInputs m)
+pub use Rattle.sheet.specs.Loop.{links}
 
 -- one of the first n modules, whose records begin at the place, links the nodes
 abbrev pub linksBelow : List ℕ → ℕ → ℕ → ℕ → ℕ → Bool

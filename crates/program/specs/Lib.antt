@@ -1,2 +1,3 @@
 -- The program: its input and what it prints.
 pub mod Program
+pub mod Room

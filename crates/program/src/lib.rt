@@ -3,6 +3,12 @@ ghost use mathlib.Core.Path.{_≡_};
 ghost use Rattle.text.specs.Lent.{Printed};
 ghost use Rattle.program.specs.Program.{horizonIn, sheetIn, listingOf, programText};
 
+// The bytes of the horizon.
+const HORIZON: usize = 4;
+
+// The bytes of an input that are looked at: the horizon, and one more than the longest sheet has.
+pub const INPUT: usize = HORIZON + 8457;
+
 // The horizon: the input's first four bytes, missing ones being 0.
 fn horizon_in(input: &[u8]) -> u32
     ensures { λ r. ⌜ r ≡ horizonIn (now (input .entry)) ⌝ }
@@ -15,13 +21,13 @@ fn sheet_in(input: &[u8]) -> &[u8]
     ensures { λ r. ⌜ now r ≡ sheetIn (now (input .entry)) ⌝ }
 {
     let n = input.len();
-    if n < 4 {
+    if n < HORIZON {
         return &input[n..];
     }
-    if n < 8461 {
-        return &input[4..];
+    if n < INPUT {
+        return &input[HORIZON..];
     }
-    &input[4..8461]
+    &input[HORIZON..INPUT]
 }
 
 // Runs the input's sheet to its horizon over a lent listing, and prints the answer and its records into a lent text. Answers how many bytes it printed.

@@ -6,4 +6,5 @@ pub mod EventRows
 pub mod WatchedRows
 pub mod Flags
 pub mod ModuleRows
-pub mod Rest
+pub mod SectionRows
+pub mod Known

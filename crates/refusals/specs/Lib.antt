@@ -1,3 +1,4 @@
--- What the code keeps while it reads, and what is left to be met.
+-- What the code keeps while it reads, and what it knows once a section is read.
 pub mod Flags
-pub mod Rest
+pub mod Sections
+pub mod Read

@@ -1,8 +1,12 @@
 // The drive's section.
 use sheet::Answer;
+use sheet::COUNT_SIZE;
 use sheet::CountRead;
+use sheet::EVENT_SIZE;
 use sheet::Event;
 use sheet::EventRead;
+use sheet::LAST_TICK;
+use sheet::MOST_EVENTS;
 ghost use mathlib.Core.Path.{_≡_};
 ghost use Prim.Native.Nat.{_≤_};
 ghost use Rattle.sheet.specs.Enumerate.{each};
@@ -27,7 +31,7 @@ fn not_above(s: &[u8], at: u16, e: u16) -> bool
     if e == 0 {
         return false;
     }
-    order_key(sheet::event_record(s, at)) <= order_key(sheet::event_record(s, at - 6))
+    order_key(sheet::event_record(s, at)) <= order_key(sheet::event_record(s, at - EVENT_SIZE))
 }
 
 // Whether a node is an input of the sheet.
@@ -49,7 +53,7 @@ fn event_refusal(s: &[u8], at: u16, e: u16, nodes: u16, driven: &[bool; 256]) ->
     let EventRead::Whole(r) = sheet::event_at(s, at) else {
         return Answer::Refused(2, at as u32, 0);
     };
-    if 999999 < r.tick {
+    if LAST_TICK < r.tick {
         return Answer::Refused(11, at as u32, 0);
     }
     if !is_input(s, r.node, nodes, driven) {
@@ -71,7 +75,7 @@ fn event_records(s: &[u8], start: u16, n: u16, nodes: u16, driven: &[bool; 256])
 {
     let mut e: u16 = 0;
     while e < n {
-        let a = event_refusal(s, start + 6 * e, e, nodes, driven);
+        let a = event_refusal(s, start + EVENT_SIZE * e, e, nodes, driven);
         let Answer::Ran(_) = a else {
             return a;
         };
@@ -88,8 +92,8 @@ pub(crate) fn section(s: &[u8], place: u16, nodes: u16, driven: &[bool; 256]) ->
     let CountRead::Whole(n) = sheet::count_at(s, place) else {
         return Answer::Refused(2, place as u32, 0);
     };
-    if 1024 < n {
+    if MOST_EVENTS < n {
         return Answer::Refused(3, place as u32, 0);
     }
-    event_records(s, place + 2, n, nodes, driven)
+    event_records(s, place + COUNT_SIZE, n, nodes, driven)
 }

@@ -1,6 +1,12 @@
 // The modules' section.
 use sheet::Answer;
+use sheet::COUNT_SIZE;
 use sheet::CountRead;
+use sheet::LAST_KIND;
+use sheet::LONGEST_DELAY;
+use sheet::MEMORY;
+use sheet::MODULE_SIZE;
+use sheet::MOST_MODULES;
 use sheet::Module;
 use sheet::ModuleRead;
 ghost use mathlib.Core.Path.{_≡_};
@@ -9,7 +15,7 @@ ghost use lib.Dec.{leb, ltb};
 ghost use lib.ListN.{length};
 ghost use Rattle.level.specs.Choice.{if_then_else_};
 ghost use Rattle.sheet.specs.Enumerate.{each};
-ghost use Rattle.sheet.specs.Layout.{nodeCount, modulePlace};
+ghost use Rattle.sheet.specs.Layout.{nodeCount, modulesPlace, modulePlace};
 ghost use Rattle.sheet.specs.Outcome.{outcomeOf, finished};
 ghost use Rattle.sheet.specs.Wiring.{drivenBy, isDriven};
 ghost use Rattle.sheet.specs.Refusal.{first, greatestParameter, miswired, moduleRows, modulesSection};
@@ -22,7 +28,7 @@ fn greatest(kind: u8) -> u8
     if kind == 0 {
         return 3;
     }
-    if kind == 9 {
+    if kind == MEMORY {
         return 15;
     }
     0
@@ -57,7 +63,7 @@ fn module_refusal(s: &[u8], at: u16, m: u16, nodes: u16, driven: &[bool; 256]) -
     let ModuleRead::Whole(r) = sheet::module_at(s, at) else {
         return Answer::Refused(2, at as u32, 0);
     };
-    if 9 < r.kind {
+    if LAST_KIND < r.kind {
         return Answer::Refused(5, at as u32, 0);
     }
     if greatest(r.kind) < r.parameter {
@@ -66,7 +72,7 @@ fn module_refusal(s: &[u8], at: u16, m: u16, nodes: u16, driven: &[bool; 256]) -
     if wrong_nodes(r, nodes) {
         return Answer::Refused(7, at as u32, 0);
     }
-    if 10000 < r.delay {
+    if LONGEST_DELAY < r.delay {
         return Answer::Refused(8, at as u32, 0);
     }
     let output = r.output as usize;
@@ -92,7 +98,7 @@ fn module_records(s: &[u8], start: u16, n: u16, nodes: u16, driven: &mut [bool; 
 {
     let mut m: u16 = 0;
     while m < n {
-        let at = start + 7 * m;
+        let at = start + MODULE_SIZE * m;
         let a = module_refusal(s, at, m, nodes, &*driven);
         let Answer::Ran(_) = a else {
             return a;
@@ -103,17 +109,16 @@ fn module_records(s: &[u8], start: u16, n: u16, nodes: u16, driven: &mut [bool; 
     Answer::Ran(0)
 }
 
-// The first refusal met in the modules' section. Flags the nodes that its modules drive.
-pub(crate) fn section(s: &[u8], nodes: u16, driven: &mut [bool; 256]) -> Answer
-    requires { ⌜ (nodes ≡ nodeCount (now s)) × (nodes ≤ 256) × Flags (now driven) (drivenBy (now s) 0) ⌝ }
+// The first refusal met in the modules' section, which stands at a place. Flags the nodes that its modules drive.
+pub(crate) fn section(s: &[u8], place: u16, nodes: u16, driven: &mut [bool; 256]) -> Answer
+    requires { ⌜ (place ≡ modulesPlace (now s)) × (nodes ≡ nodeCount (now s)) × (nodes ≤ 256) × Flags (now driven) (drivenBy (now s) 0) ⌝ }
     ensures { λ r. ⌜ (outcomeOf r ≡ first (modulesSection (now (s .entry)))) × (outcomeOf r ≡ finished 0 → Flags (now (driven .exit)) (isDriven (now (s .entry)))) ⌝ }
 {
-    let place = 2 + nodes;
     let CountRead::Whole(n) = sheet::count_at(s, place) else {
         return Answer::Refused(2, place as u32, 0);
     };
-    if 256 < n {
+    if MOST_MODULES < n {
         return Answer::Refused(3, place as u32, 0);
     }
-    module_records(s, place + 2, n, nodes, driven)
+    module_records(s, place + COUNT_SIZE, n, nodes, driven)
 }

@@ -1,5 +1,8 @@
 // After the modules, each node's byte; after the drive, each input's first event.
 use sheet::Answer;
+use sheet::COUNT_SIZE;
+use sheet::EVENT_SIZE;
+use sheet::INPUT;
 ghost use mathlib.Core.Path.{_≡_};
 ghost use Prim.Native.Nat.{_+_, _<_, _≤_};
 ghost use lib.ListN.{length};
@@ -15,14 +18,14 @@ fn start_refusal(s: &[u8], v: u16, driven: &[bool; 256]) -> Answer
     requires { ⌜ (v < 256) × Flags (now driven) (isDriven (now s)) ⌝ }
     ensures { λ r. ⌜ outcomeOf r ≡ first (startRows (now (s .entry)) v) ⌝ }
 {
-    let b = sheet::byte(s, (2 + v) as usize);
+    let b = sheet::byte(s, (COUNT_SIZE + v) as usize);
     if driven[v as usize] {
-        if b == 4 {
+        if b == INPUT {
             return Answer::Refused(10, v as u32, 0);
         }
         return Answer::Ran(0);
     }
-    if b < 4 {
+    if b < INPUT {
         return Answer::Refused(10, v as u32, 0);
     }
     Answer::Ran(0)
@@ -63,7 +66,7 @@ fn mark_all(s: &[u8], start: u16, events: u16, started: &mut [bool; 256])
 {
     let mut e: u16 = 0;
     while e < events {
-        mark(s, start + 6 * e, e, started);
+        mark(s, start + EVENT_SIZE * e, e, started);
         e += 1;
     }
 }

@@ -1,6 +1,8 @@
 // The watched nodes' section.
 use sheet::Answer;
+use sheet::COUNT_SIZE;
 use sheet::CountRead;
+use sheet::MOST_WATCHED;
 use sheet::NodeRead;
 ghost use mathlib.Core.Path.{_≡_};
 ghost use Prim.Native.Nat.{_≤_};
@@ -61,8 +63,8 @@ pub(crate) fn section(s: &[u8], place: u16, nodes: u16) -> Answer
     let CountRead::Whole(n) = sheet::count_at(s, place) else {
         return Answer::Refused(2, place as u32, 0);
     };
-    if 256 < n {
+    if MOST_WATCHED < n {
         return Answer::Refused(3, place as u32, 0);
     }
-    watched_records(s, place + 2, n, nodes)
+    watched_records(s, place + COUNT_SIZE, n, nodes)
 }

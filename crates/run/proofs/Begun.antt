@@ -1,18 +1,17 @@
 -- What a run is before its first tick: refused by its horizon or its sheet, with nothing written; or an accepted sheet to run. Assumes nothing.
 use borrow.Author.Tests.{eq-eqb, ne-eqb, lt-ltb, le-ltb}
-use mathlib.Core.Bool.{Bool, true, false, _||_}
+use mathlib.Core.Bool.{true, false}
 use mathlib.Core.List.{List, []}
-use mathlib.Core.Path.{_≡_, refl, sym, ap, _∙_}
+use mathlib.Core.Path.{_≡_, sym, ap, _∙_}
 use Prim.Native.Nat.{ℕ, _<_, _≤_}
 use native.Mathlib.Omega.{arith}
-use lib.Dec.{eqb, ltb}
 use lib.ListN.{length}
 use Rattle.level.specs.Choice.{if_then_else_}
 use Rattle.sheet.specs.declared.Answer.{Answer}
 use Rattle.sheet.specs.declared.Answer.the-variants.{Refused}
 use Rattle.sheet.specs.Outcome.{Outcome, refused, outcomeOf}
 use Rattle.sheet.specs.Refusal.{checked}
-use Rattle.network.specs.Run.{Written, wrote, afterCheck, ran, bufferAfter}
+use Rattle.network.specs.Run.{wrote, afterCheck, ran, bufferAfter}
 use Rattle.network.proofs.Runs.{outOfRange}
 use Rattle.model.proofs.Buffer.{buffer-none}
 

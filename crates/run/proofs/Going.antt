@@ -1,36 +1,35 @@
 -- The ticks of a run, as its arrays have them: what is kept before a tick is the model's state, the listing holds the records of the ticks before, and all of these passed.
 -- The model's laws then tell the answer. Assumes nothing.
 use borrow.Author.Tests.{le-ltb, ne-eqb}
-use mathlib.Core.Bool.{Bool, true, false, _||_}
+use mathlib.Core.Bool.{false}
 use mathlib.Core.List.{List, _++_}
 use mathlib.Core.Path.{_≡_, refl, sym, ap, _∙_, subst}
 use Prim.Native.Nat.{ℕ, zero, suc, _+_, _*_, _<_, _≤_}
 use native.Mathlib.Decide.{ℕ-discrete}
 use native.Mathlib.Omega.{arith}
-use lib.Dec.{eqb, ltb}
 use lib.ListN.{length, take, length-append, length-take}
 use Rattle.sheet.specs.declared.Event.{Event}
-use Rattle.sheet.specs.Layout.{moduleCount, eventCount, eventOf, watchedCount, watchedNode}
+use Rattle.sheet.specs.Layout.{moduleCount, eventCount, eventOf}
 use Rattle.sheet.specs.Outcome.{Outcome, finished, refused}
-use Rattle.format.specs.Accepted.{Accepted}
-use Rattle.format.specs.Sheet.{Sheet, sheetOf, listed}
+use Rattle.format.specs.Sheet.{sheetOf}
 use Rattle.network.specs.Timeline.{Cells}
 use Rattle.network.specs.Order.{workingOrder}
 use Rattle.network.specs.Listing.{listing, pending}
-use Rattle.network.specs.Run.{room, recordSize, pendingLimit, Written, wrote, writtenOf, cellsOf, ran, bufferAfter}
+use Rattle.network.specs.Run.{room, pendingLimit, wrote, writtenOf, cellsOf, ran, bufferAfter}
+use Rattle.network.specs.RunConditions.{Passed}
+use Rattle.network.proofs.Outcome.{full, crowded, whole}
 use Rattle.network.proofs.WorkingOrder.{working-order}
 use Rattle.network.proofs.Runs.{outOfRange, satisfied, ran-worked}
 use Rattle.model.specs.Drive.{eventsBelow, nextEvent}
 use Rattle.model.specs.Fresh.{fresh}
 use Rattle.model.specs.State.{State, delayedBelow}
-use Rattle.model.specs.Ticks.{Loaded, tickOf, stateAt, recordsBelow}
+use Rattle.model.specs.Ticks.{tickOf, stateAt, recordsBelow}
 use Rattle.model.proofs.Setting.{Setting}
 use Rattle.model.proofs.Stands.{records, pendings}
-use Rattle.model.proofs.Outcome.{Passed, full, crowded, whole}
 use Rattle.model.proofs.Buffer.{buffer-none, buffer-more, buffer-length, fits-room}
 use Rattle.run.specs.Fit.{Levels}
 use Rattle.run.specs.Ready.{kept, Ready}
-use Rattle.run.specs.Step as step
+use Rattle.run.specs.Step.{NoRoom, RecordsWritten, StepOf}
 use Rattle.run.specs.Tick.{Worked}
 use Rattle.run.specs.declared.work.Shape.{Shape}
 use Rattle.run.specs.declared.list.Step.{Step}
@@ -162,13 +161,13 @@ module _ {s table delays watched : List ℕ} {st : State} {horizon : ℕ} {shape
     listing-next = ap length (sym (listing-below (suc t) h) ∙ below-next) ∙ length-append (below t) these ∙ ap (λ k. k + length these) (sym (G .counted))
 
     -- 19: no room for its records
-    no-room : {now′ : List ℕ} → step.NoRoom now n t (take (shape .watched) watched) values′ shown now′ → Ended buffer now′ (refused 19 t n)
+    no-room : {now′ : List ℕ} → NoRoom now n t (take (shape .watched) watched) values′ shown now′ → Ended buffer now′ (refused 19 t n)
     no-room N =
         ended buffer _ n t (refused 19 t) (omega arith) (G .counted) (N .untouched ∙ G .bytes)
         (full (sheetOf s) cells horizon (length buffer) t h (G .passed) (rw listing-next (rw (same-length-so-far G) at (N .over))))
 
     -- the records are written
-    module _ (fits : n + length these ≤ room (length now)) {count : ℕ} {now′ shown′ : List ℕ} (D : step.Written now n t (take (shape .watched) watched) values′ shown count now′ shown′) where
+    module _ (fits : n + length these ≤ room (length now)) {count : ℕ} {now′ shown′ : List ℕ} (D : RecordsWritten now n t (take (shape .watched) watched) values′ shown count now′ shown′) where
       fits-buffer : n + length these ≤ room (length buffer)
       fits-buffer = rw (same-length-so-far G) at fits
 
@@ -221,7 +220,7 @@ module _ {s table delays watched : List ℕ} {st : State} {horizon : ℕ} {shape
 
     -- by the step that the listing tells
     abbrev Told : Step → List ℕ → List ℕ → Type 0
-    Told = step.Listed now n t (take (shape .watched) watched) values′ shown due′
+    Told = StepOf now n t (take (shape .watched) watched) values′ shown due′
 
     pub told-full : {x : Step} (now′ shown′ : List ℕ) → x ≡ Full → Told x now′ shown′ → Ended buffer now′ (refused 19 t n)
     told-full now′ shown′ e l = no-room (subst (λ x. Told x now′ shown′) e l)

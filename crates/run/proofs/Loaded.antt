@@ -1,15 +1,15 @@
 -- What loading an accepted sheet leaves is what the model starts from; and what the passes ask of the drive and of the tables holds of it. Assumes nothing.
 use mathlib.Core.List.{List}
-use mathlib.Core.Path.{_≡_, refl, sym, ap, _∙_}
+use mathlib.Core.Path.{_≡_, refl, ap, _∙_}
 use Prim.Native.Nat.{ℕ, zero, suc, _<_, _≤_}
 use native.Mathlib.Omega.{arith}
-use lib.Seq.{getD-take}
-use lib.ListN.{getD, take, replicate, length-replicate, getD-replicate}
+use lib.ListN.{getD, replicate, length-replicate, getD-replicate}
 use Rattle.sheet.specs.declared.Module.{Module}
 use Rattle.sheet.specs.Layout.{nodeCount, nodeByte, moduleCount, modulePlace, moduleOf, eventCount, eventPlace, watchPlace}
 use Rattle.format.specs.Accepted.{Accepted}
-use Rattle.network.specs.Order.{workingOrder}
+use Rattle.network.specs.Order.{InWorkingOrder}
 use Rattle.network.proofs.WorkingOrder.{every-module-once}
+use Rattle.network.proofs.RecordsInOrder.{record-there}
 use Rattle.model.specs.Table.{tableAt, moduleAt}
 use Rattle.model.specs.Fresh.{notShown}
 use Rattle.model.specs.State.{orderedAt, firstValue}
@@ -48,13 +48,11 @@ module _ (s : List ℕ) (acc : Accepted s) where
         ticks = λ a b l h. omega (arith, acc .drive-rises a b l h, acc .sound-events b h .node .node, acc .nodes);
       }
 
-  -- the modules are put into the tables in working order
+  -- the records are put into the tables in working order
   module _ {nodes modules : ℕ} (nodes-counted : nodes ≡ nodeCount s) (modules-counted : modules ≡ moduleCount s)
-      {table delays order : List ℕ} (put : ModulesPut (moduleOf s) order modules table delays) (ordered : take modules order ≡ workingOrder s) where
+      {table delays : List ℕ} {records : List Module} (put : ModulesPut records modules table delays) (ordered : InWorkingOrder s records) where
     in-order : (k : ℕ) → k < moduleCount s → moduleAt table delays k ≡ moduleOf s (orderedAt s k)
-    in-order k h =
-        let b : k < modules = rw modules-counted h in
-        put .each k b ∙ ap (moduleOf s) (sym (getD-take modules order k 0 b) ∙ ap (λ (l : List ℕ). getD l k 0) ordered)
+    in-order k h = put .each k (rw modules-counted h) ∙ record-there s records ordered k h
 
     known : AllKnown table (moduleCount s)
     known k h =

@@ -11,7 +11,9 @@ use lib.ListN.{length, getD, set, take, length-set}
 use lib.Seq.{getD-set-same, getD-set-other, getD-take, length-take-le, sets, length-sets}
 use Rattle.sheet.specs.Bytes.{byteAt, wordAt}
 use Rattle.sheet.specs.declared.Module.{Module}
-use Rattle.sheet.specs.Layout.{nodeByte, modulePlace, moduleRecord, moduleOf, watchPlace, watchedNode}
+use Rattle.sheet.specs.Layout.{nodeByte, modulePlace, moduleOf, watchPlace, watchedNode}
+use Rattle.order.specs.Records.{recordAt}
+use Rattle.order.proofs.Recorded.{module-there}
 use Rattle.format.specs.Sheet.{listed}
 use Rattle.format.proofs.Listed.{listed-is}
 use Rattle.model.specs.Table.{tableAt, moduleAt}
@@ -63,21 +65,14 @@ module _ {table delays : List ℕ} (room : Room table delays) (k : ℕ) (h : k <
         before = λ j b. rw (other-field j 0 b (omega arith), other-field j 1 b (omega arith), other-field j 2 b (omega arith), other-field j 3 b (omega arith), other-field j 4 b (omega arith), getD-set-other delays k j (m .delay) 0 (omega arith));
       }
 
--- the modules in an order, one more
-pub none-put : {table delays : List ℕ} (given : ℕ → Module) (order : List ℕ) → Room table delays → ModulesPut given order 0 table delays
-none-put given order r = record { room = r; each = λ k h. absurd (not-suc-le-zero h) }
+-- the records in the tables, one more
+pub none-put : {table delays : List ℕ} (records : List Module) → Room table delays → ModulesPut records 0 table delays
+none-put records r = record { room = r; each = λ k h. absurd (not-suc-le-zero h) }
 
-pub modules-more : {given : ℕ → Module} {order : List ℕ} {k : ℕ} {table delays table′ delays′ : List ℕ} {m : Module}
-    → ModulesPut given order k table delays → ModulePut table delays k m table′ delays′ → m ≡ given (getD order k 0) → ModulesPut given order (k + 1) table′ delays′
-modules-more {given} {order} {k} {table} {delays} {table′} {delays′} p q e =
-    record { room = q .room; each = below-more (λ j. moduleAt table′ delays′ j ≡ given (getD order j 0)) k (λ j h. q .before j h ∙ p .each j h) (q .put ∙ e) }
-
--- the module whose record stands so many records after the first
-pub module-there : (s : List ℕ) {place : ℕ} → place ≡ modulePlace s 0 → (m : ℕ) → moduleRecord s (place + 7 * m) ≡ moduleOf s m
-module-there s {place} e m = ap (moduleRecord s) there
-  where
-    there : place + 7 * m ≡ modulePlace s m
-    there = omega (arith, e)
+pub modules-more : {records : List Module} {k : ℕ} {table delays table′ delays′ : List ℕ}
+    → ModulesPut records k table delays → ModulePut table delays k (recordAt records k) table′ delays′ → ModulesPut records (k + 1) table′ delays′
+modules-more {records} {k} {table} {delays} {table′} {delays′} p q =
+    record { room = q .room; each = below-more (λ j. moduleAt table′ delays′ j ≡ recordAt records j) k (λ j h. q .before j h ∙ p .each j h) (q .put) }
 
 -- delayed modules, counted
 module _ (s : List ℕ) {place : ℕ} (stands : place ≡ modulePlace s 0) (m : ℕ) where

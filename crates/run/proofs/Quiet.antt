@@ -14,7 +14,7 @@ use Rattle.format.specs.Encode.{eventBytes, allBytes}
 use Rattle.network.specs.Run.{recordSize}
 use Rattle.model.specs.Fresh.{fresh, showAll}
 use Rattle.model.proofs.Buffer.{written-none}
-use Rattle.run.specs.Step.{Written}
+use Rattle.run.specs.Step.{RecordsWritten}
 
 pub shown-still : (t : ℕ) (values shown vs : List ℕ) → length (fresh t values shown vs) ≡ 0 → showAll values shown vs ≡ shown
 unfolding fresh showAll
@@ -29,7 +29,7 @@ shown-still t values shown (v ∷ vs) e = at (eqb (getD values v 0) (getD shown 
 
 -- and the listing as it is
 pub nothing-written : {n t : ℕ} {listing values shown watched : List ℕ} → length (fresh t values shown watched) ≡ 0 → length shown ≡ 256
-    → Written listing n t watched values shown n listing shown
+    → RecordsWritten listing n t watched values shown n listing shown
 nothing-written {n} {t} {listing} {values} {shown} {watched} e size =
     record {
       counted = omega arith;

@@ -2,9 +2,10 @@
 use mathlib.Core.List.{List}
 use mathlib.Core.Path.{_≡_}
 use Prim.Native.Nat.{ℕ, _<_}
-use lib.ListN.{length, getD, take, replicate}
+use lib.ListN.{length, take, replicate}
 use Rattle.sheet.specs.declared.Module.{Module}
 use Rattle.sheet.specs.Layout.{moduleCount}
+use Rattle.order.specs.Records.{recordAt}
 use Rattle.model.specs.Table.{moduleAt}
 use Rattle.model.specs.Fresh.{notShown}
 use Rattle.model.specs.Ticks.{Loaded}
@@ -21,10 +22,10 @@ pub record ModulePut (table delays : List ℕ) (k : ℕ) (m : Module) (table′ 
   pub put : moduleAt table′ delays′ k ≡ m
   pub before : (j : ℕ) → j < k → moduleAt table′ delays′ j ≡ moduleAt table delays j
 
--- the first n positions hold the modules that the order gives
-pub record ModulesPut (given : ℕ → Module) (order : List ℕ) (n : ℕ) (table delays : List ℕ) : Type 0 where
+-- the first n positions hold the first n records
+pub record ModulesPut (records : List Module) (n : ℕ) (table delays : List ℕ) : Type 0 where
   pub room : Room table delays
-  pub each : (k : ℕ) → k < n → moduleAt table delays k ≡ given (getD order k 0)
+  pub each : (k : ℕ) → k < n → moduleAt table delays k ≡ recordAt records k
 
 -- all that the model starts from, once nothing is shown or pending
 pub record Started (s table delays values last : List ℕ) : Type 0 where

@@ -10,7 +10,7 @@ use Rattle.run.specs.declared.list.Step.{Step}
 use Rattle.run.specs.declared.list.Step.the-variants.{Next, Full, Crowded}
 
 -- n records were written before, and then those of tick t
-pub record Written (listing : List ℕ) (n t : ℕ) (watched values shown : List ℕ) (count : ℕ) (listing′ shown′ : List ℕ) : Type 0 where
+pub record RecordsWritten (listing : List ℕ) (n t : ℕ) (watched values shown : List ℕ) (count : ℕ) (listing′ shown′ : List ℕ) : Type 0 where
   pub counted : count ≡ n + length (fresh t values shown watched)
   pub bytes : listing′ ≡ take (recordSize * n) listing ++ allBytes eventBytes (fresh t values shown watched) ++ drop (recordSize * (n + length (fresh t values shown watched))) listing
   pub now-shown : shown′ ≡ showAll values shown watched
@@ -22,9 +22,9 @@ pub record NoRoom (listing : List ℕ) (n t : ℕ) (watched values shown listing
   pub untouched : listing′ ≡ listing
 
 -- so many changes are pending after the tick
-abbrev pub Listed : List ℕ → ℕ → ℕ → List ℕ → List ℕ → List ℕ → ℕ → Step → List ℕ → List ℕ → Type 0
-Listed listing n t watched values shown pending Full listing′ shown′ = NoRoom listing n t watched values shown listing′
-Listed listing n t watched values shown pending (Crowded count) listing′ shown′ =
-    (n + length (fresh t values shown watched) ≤ room (length listing)) × (pendingLimit < pending) × Written listing n t watched values shown count listing′ shown′
-Listed listing n t watched values shown pending (Next count) listing′ shown′ =
-    (n + length (fresh t values shown watched) ≤ room (length listing)) × (pending ≤ pendingLimit) × Written listing n t watched values shown count listing′ shown′
+abbrev pub StepOf : List ℕ → ℕ → ℕ → List ℕ → List ℕ → List ℕ → ℕ → Step → List ℕ → List ℕ → Type 0
+StepOf listing n t watched values shown pending Full listing′ shown′ = NoRoom listing n t watched values shown listing′
+StepOf listing n t watched values shown pending (Crowded count) listing′ shown′ =
+    (n + length (fresh t values shown watched) ≤ room (length listing)) × (pendingLimit < pending) × RecordsWritten listing n t watched values shown count listing′ shown′
+StepOf listing n t watched values shown pending (Next count) listing′ shown′ =
+    (n + length (fresh t values shown watched) ≤ room (length listing)) × (pending ≤ pendingLimit) × RecordsWritten listing n t watched values shown count listing′ shown′

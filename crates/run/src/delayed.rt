@@ -4,7 +4,7 @@ use crate::zero_delay::comes_to;
 ghost use mathlib.Core.Path.{_≡_};
 ghost use Prim.Native.Nat.{_+_, _<_, _≤_};
 ghost use lib.ListN.{length, take};
-ghost use Rattle.model.specs.Passes.{Scheduled, scheduleOne, schedule};
+ghost use Rattle.model.specs.Passes.{scheduleOne, schedule};
 ghost use Rattle.run.specs.Fit.{Known, AllKnown, Levels};
 ghost use Rattle.run.specs.Gates.{Gates};
 

@@ -1,5 +1,6 @@
 // The drive's events of a tick.
 use crate::bytes::wide;
+use sheet::EVENT_SIZE;
 ghost use mathlib.Core.Path.{_≡_};
 ghost use Prim.Native.Nat.{suc};
 ghost use Rattle.model.specs.Drive.{nextEvent, driveTick};
@@ -20,7 +21,7 @@ pub(crate) fn drive_all(
 {
     let mut e = next;
     while e < events {
-        let event = sheet::event_record(s, place + 6 * e);
+        let event = sheet::event_record(s, place + EVENT_SIZE * e);
         if event.tick != t {
             return e;
         }

@@ -1,9 +1,10 @@
 // The records of a tick: counted first, and then written.
 use crate::bytes::wide;
+use sheet::EVENT_BYTES;
 ghost use mathlib.Core.List.{_++_};
 ghost use mathlib.Core.Path.{_≡_};
 ghost use Prim.Native.Nat.{ℕ, _+_, _*_, _<_, _≤_};
-ghost use lib.ListN.{length, getD, take, drop};
+ghost use lib.ListN.{length, take, drop};
 ghost use Rattle.format.specs.Encode.{eventBytes, allBytes};
 ghost use Rattle.model.specs.Fresh.{fresh, showAll};
 
@@ -61,7 +62,7 @@ pub(crate) fn write_fresh(
         let node = watched[k];
         let v = wide(node);
         if values[v] != shown[v] {
-            write_record(listing, 6 * c, t, node, values[v]);
+            write_record(listing, EVENT_BYTES * c, t, node, values[v]);
             c += 1;
         }
         k += 1;

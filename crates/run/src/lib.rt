@@ -31,7 +31,8 @@ pub fn run(sheet: &[u8], horizon: u32, listing: &mut [u8]) -> Answer
     if GREATEST_HORIZON < horizon {
         return Answer::Refused(1, 0, 0);
     }
-    let a = refusals::bytes_refusal(sheet);
+    let contents = refusals::read_sheet(sheet);
+    let a = contents.answer;
     let Answer::Ran(_) = a else {
         return a;
     };
@@ -40,5 +41,6 @@ pub fn run(sheet: &[u8], horizon: u32, listing: &mut [u8]) -> Answer
     let Answer::Ran(_) = b else {
         return b;
     };
-    accepted::run_accepted(sheet, horizon, &order, listing)
+    let records = order::in_working_order(sheet, &order);
+    accepted::run_accepted(sheet, contents, horizon, records, listing)
 }

@@ -2,11 +2,15 @@
 use crate::fresh::count_fresh;
 use crate::fresh::show_all;
 use crate::fresh::write_fresh;
+use sheet::EVENT_BYTES;
 ghost use mathlib.Core.Path.{_≡_};
-ghost use Prim.Native.Nat.{ℕ, _+_, _*_, _<_, _≤_};
+ghost use Prim.Native.Nat.{_+_, _*_, _<_, _≤_};
 ghost use lib.ListN.{length, take};
 ghost use Rattle.model.specs.Fresh.{fresh};
-ghost use Rattle.run.specs.Step.{Listed, Written};
+ghost use Rattle.run.specs.Step.{StepOf, RecordsWritten};
+
+// The most changes that may be pending after a tick.
+const PENDING_LIMIT: usize = 4096;
 
 // After a tick's listing: no room for its records; written, with the count, but too many changes pending; or written.
 pub(crate) enum Step {
@@ -27,7 +31,7 @@ fn write(
     records: usize,
 ) -> usize
     requires { ⌜ (count ≤ 256) × (length (now watched) ≡ 256) × (length (now shown) ≡ 256) × (records ≡ length (fresh t (now values) (now shown) (take count (now watched)))) × (6 * (n + records) ≤ length (now listing)) ⌝ }
-    ensures { λ r. ⌜ Written (now (listing .entry)) n t (take count (now (watched .entry))) (now (values .entry)) (now (shown .entry)) r (now (listing .exit)) (now (shown .exit)) ⌝ }
+    ensures { λ r. ⌜ RecordsWritten (now (listing .entry)) n t (take count (now (watched .entry))) (now (values .entry)) (now (shown .entry)) r (now (listing .exit)) (now (shown .exit)) ⌝ }
 {
     if records == 0 {
         return n;
@@ -49,14 +53,14 @@ pub(crate) fn list(
     pending: usize,
 ) -> Step
     requires { ⌜ (count ≤ 256) × (length (now watched) ≡ 256) × (length (now shown) ≡ 256) × (n ≤ 256 * t) × (t < 1000000) ⌝ }
-    ensures { λ r. ⌜ Listed (now (listing .entry)) n t (take count (now (watched .entry))) (now (values .entry)) (now (shown .entry)) pending r (now (listing .exit)) (now (shown .exit)) ⌝ }
+    ensures { λ r. ⌜ StepOf (now (listing .entry)) n t (take count (now (watched .entry))) (now (values .entry)) (now (shown .entry)) pending r (now (listing .exit)) (now (shown .exit)) ⌝ }
 {
     let records = count_fresh(watched, count, values, &*shown);
-    if listing.len() / 6 < n + records {
+    if listing.len() / EVENT_BYTES < n + records {
         return Step::Full;
     }
     let written = write(listing, n, t, watched, count, values, shown, records);
-    if 4096 < pending {
+    if PENDING_LIMIT < pending {
         return Step::Crowded(written);
     }
     Step::Next(written)

@@ -1,23 +1,26 @@
 // The arrays of a run, filled from an accepted sheet.
 use crate::bytes::wide;
+use sheet::COUNT_BYTES;
+use sheet::INPUT;
+use sheet::MODULE_SIZE;
+use sheet::Module;
 ghost use mathlib.Core.Path.{_≡_};
 ghost use Prim.Native.Nat.{ℕ, _<_, _≤_};
 ghost use lib.ListN.{length, getD, take};
-ghost use Rattle.sheet.specs.Layout.{nodeCount, nodeByte, moduleCount, modulePlace, moduleRecord, moduleOf, watchPlace, watchedNode};
+ghost use Rattle.sheet.specs.Layout.{nodeCount, nodeByte, moduleCount, modulePlace, watchPlace, watchedNode};
 ghost use Rattle.format.specs.Accepted.{Accepted};
 ghost use Rattle.format.specs.Sheet.{listed};
-ghost use Rattle.network.specs.Order.{workingOrder};
+ghost use Rattle.order.specs.Records.{InWorkingOrder};
 ghost use Rattle.model.specs.Table.{tableAt};
 ghost use Rattle.model.specs.State.{delayedBelow, firstValue};
 ghost use Rattle.run.specs.Fit.{Levels};
 ghost use Rattle.run.specs.Load.{Room, ModulePut, ModulesPut, Started};
 
-// Puts the record at a place of the sheet to position k of the tables.
-fn load_module(s: &[u8], place: u16, k: usize, table: &mut [u8; 2048], delays: &mut [u16; 256])
+// Puts a module's record to position k of the tables.
+fn load_module(m: Module, k: usize, table: &mut [u8; 2048], delays: &mut [u16; 256])
     requires { ⌜ (k < 256) × Room (now table) (now delays) ⌝ }
-    ensures { λ _. ⌜ ModulePut (now (table .entry)) (now (delays .entry)) k (moduleRecord (now (s .entry)) place) (now (table .exit)) (now (delays .exit)) ⌝ }
+    ensures { λ _. ⌜ ModulePut (now (table .entry)) (now (delays .entry)) k m (now (table .exit)) (now (delays .exit)) ⌝ }
 {
-    let m = sheet::module_record(s, place);
     let at = 8 * k;
     table[at] = m.kind;
     table[at + 1] = m.parameter;
@@ -27,22 +30,19 @@ fn load_module(s: &[u8], place: u16, k: usize, table: &mut [u8; 2048], delays: &
     delays[k] = m.delay;
 }
 
-// Puts the modules into the tables, in an order. The first module's record stands at a place.
+// Puts the first n records into the tables, once before tick 0: the ticks work on lent bytes.
 pub(crate) fn load_modules(
-    s: &[u8],
-    place: u16,
-    order: &[u8; 256],
+    records: [Module; 256],
     n: usize,
     table: &mut [u8; 2048],
     delays: &mut [u16; 256],
 )
-    requires { ⌜ (n ≤ 256) × (place ≡ modulePlace (now s) 0) × (place ≤ 260) × Room (now table) (now delays) ⌝ }
-    ensures { λ _. ⌜ ModulesPut (moduleOf (now (s .entry))) (now (order .entry)) n (now (table .exit)) (now (delays .exit)) ⌝ }
+    requires { ⌜ (n ≤ 256) × Room (now table) (now delays) ⌝ }
+    ensures { λ _. ⌜ ModulesPut records n (now (table .exit)) (now (delays .exit)) ⌝ }
 {
     let mut k: usize = 0;
     while k < n {
-        let m = wide(order[k]) as u16;
-        load_module(s, place + 7 * m, k, table, delays);
+        load_module(records[k], k, table, delays);
         k += 1;
     }
 }
@@ -55,7 +55,7 @@ pub(crate) fn count_delayed(s: &[u8], place: u16, n: u16) -> usize
     let mut c: usize = 0;
     let mut m: u16 = 0;
     while m < n {
-        if sheet::word(s, place + 7 * m + 5) != 0 {
+        if sheet::word(s, place + MODULE_SIZE * m + 5) != 0 {
             c += 1;
         }
         m += 1;
@@ -68,8 +68,8 @@ fn first_value(s: &[u8], v: usize) -> u8
     requires { ⌜ (v < 256) × (nodeByte (now s) v ≤ 4) ⌝ }
     ensures { λ r. ⌜ (r ≡ firstValue (now (s .entry)) v) × (r < 4) ⌝ }
 {
-    let b = sheet::byte(s, 2 + v);
-    if b == 4 { 2 } else { b }
+    let b = sheet::byte(s, COUNT_BYTES + v);
+    if b == INPUT { 2 } else { b }
 }
 
 // Puts the first values of the nodes into the values.
@@ -109,22 +109,22 @@ pub(crate) fn load_watched(s: &[u8], place: usize, n: usize, watched: &mut [u8; 
     }
 }
 
-// Fills the tables, the values and what the modules came to last from an accepted sheet, its modules in working order.
+// Fills the tables, the values and what the modules came to last from an accepted sheet and its records in working order.
 pub(crate) fn load_all(
     s: &[u8],
     nodes: u16,
     modules: u16,
-    order: &[u8; 256],
+    records: [Module; 256],
     table: &mut [u8; 2048],
     delays: &mut [u16; 256],
     values: &mut [u8; 256],
     last: &mut [u8; 256],
 )
-    requires { ⌜ Accepted (now s) × (nodes ≡ nodeCount (now s)) × (modules ≡ moduleCount (now s)) × (take modules (now order) ≡ workingOrder (now s)) × Room (now table) (now delays) × Levels (now values) × Levels (now last) ⌝ }
+    requires { ⌜ Accepted (now s) × (nodes ≡ nodeCount (now s)) × (modules ≡ moduleCount (now s)) × InWorkingOrder (now s) records × Room (now table) (now delays) × Levels (now values) × Levels (now last) ⌝ }
     ensures { λ _. ⌜ Started (now (s .entry)) (now (table .exit)) (now (delays .exit)) (now (values .exit)) (now (last .exit)) ⌝ }
 {
     let n = modules as usize;
-    load_modules(s, 2 + nodes + 2, order, n, table, delays);
+    load_modules(records, n, table, delays);
     load_values(s, nodes as usize, values);
     load_last(&*table, n, &*values, last);
 }

@@ -4,7 +4,7 @@ use crate::due::apply_due;
 use crate::events::drive_all;
 use crate::zero_delay::settle_all;
 ghost use mathlib.Core.Path.{_≡_};
-ghost use Prim.Native.Nat.{ℕ, suc, _<_, _≤_};
+ghost use Prim.Native.Nat.{suc, _<_, _≤_};
 ghost use lib.ListN.{length, take};
 ghost use Rattle.model.specs.Drive.{nextEvent};
 ghost use Rattle.run.specs.Drive.{Driving};

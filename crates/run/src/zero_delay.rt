@@ -2,12 +2,13 @@
 use crate::bytes::wide;
 use crate::gates::gate;
 use level::Level;
+use sheet::MEMORY;
 ghost use mathlib.Core.Path.{_≡_};
 ghost use Prim.Native.Nat.{_-_, _<_, _≤_};
 ghost use Rattle.level.specs.Rule.{comesTo};
 ghost use Rattle.level.specs.Kind.{ruleOf};
 ghost use Rattle.sheet.specs.Refusal.{greatestParameter};
-ghost use Rattle.model.specs.Passes.{Settled, comesToNow, settleOne, settle};
+ghost use Rattle.model.specs.Passes.{comesToNow, settleOne, settle};
 ghost use Rattle.run.specs.Fit.{Known, AllKnown, Levels};
 ghost use Rattle.run.specs.Gates.{Gates};
 
@@ -19,7 +20,7 @@ fn rule(gates: &[u8; 256], kind: u8, parameter: u8, first: u8, second: u8, held:
     if kind == 0 {
         return parameter;
     }
-    if kind == 9 {
+    if kind == MEMORY {
         if Level::in_set(parameter, second) {
             return first;
         }

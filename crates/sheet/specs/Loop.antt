@@ -5,6 +5,7 @@ use mathlib.Core.List.{List, List·Memᴰ}
 use mathlib.Core.Path.{_≡_}
 use Prim.Native.Nat.{ℕ, zero, suc, _<_}
 use lib.Dec.{eqb}
+use Rattle.sheet.specs.declared.Module.{Module}
 use Rattle.sheet.specs.Enumerate.{anyOf, anyBelow}
 use Rattle.sheet.specs.Layout.{nodeCount, moduleCount, moduleOf}
 use Rattle.sheet.specs.Wiring.{usedInputs}
@@ -37,9 +38,13 @@ pub record LeastOnLoop (s : List ℕ) (v : ℕ) : Type 0 where
 abbrev pub LoopFree : List ℕ → Type 0
 LoopFree s = (v : ℕ) → v < nodeCount s → OnLoop s v → ⊥
 
--- The same as a test. A module of delay 0 has the first node for a used input and the second for its output:
+-- The same as a test. A module has delay 0, the first node for a used input and the second for its output:
+abbrev pub links : Module → ℕ → ℕ → Bool
+links m u v = eqb (m .delay) 0 && eqb (m .output) v && anyOf (eqb u) (usedInputs m)
+
+-- some module of the sheet links the nodes
 abbrev pub leads : List ℕ → ℕ → ℕ → Bool
-leads s u v = anyBelow (moduleCount s) (λ m. eqb (moduleOf s m .delay) 0 && eqb (moduleOf s m .output) v && anyOf (eqb u) (usedInputs (moduleOf s m)))
+leads s u v = anyBelow (moduleCount s) (λ m. links (moduleOf s m) u v)
 
 -- the first node leads to the second over nodes below k
 unfoldable pub leadsOver : List ℕ → ℕ → ℕ → ℕ → Bool

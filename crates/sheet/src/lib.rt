@@ -7,6 +7,42 @@ ghost use Rattle.sheet.specs.Bytes.{byteAt, wordAt, longAt};
 ghost use Rattle.sheet.specs.Layout.{moduleRecord, eventRecord};
 ghost use Rattle.sheet.specs.Reading.{countRead, nodeRead, moduleRead, eventRead};
 
+// The sizes of a count, and of a module's and an event's record; a node's and a watched node's is one byte.
+pub const COUNT_SIZE: u16 = 2;
+
+pub const MODULE_SIZE: u16 = 7;
+
+pub const EVENT_SIZE: u16 = 6;
+
+// The same, to compare with lengths. A record of the listing is laid out as an event's.
+pub const COUNT_BYTES: usize = COUNT_SIZE as usize;
+
+const MODULE_BYTES: usize = MODULE_SIZE as usize;
+
+pub const EVENT_BYTES: usize = EVENT_SIZE as usize;
+
+// The most of each section's records.
+pub const MOST_NODES: u16 = 256;
+
+pub const MOST_MODULES: u16 = 256;
+
+pub const MOST_EVENTS: u16 = 1024;
+
+pub const MOST_WATCHED: u16 = 256;
+
+// The byte of a node that is an input.
+pub const INPUT: u8 = 4;
+
+// A memory's kind, which is the last one.
+pub const MEMORY: u8 = 9;
+
+pub const LAST_KIND: u8 = MEMORY;
+
+// The longest delay, and the last tick of an event.
+pub const LONGEST_DELAY: u16 = 10000;
+
+pub const LAST_TICK: u32 = 999999;
+
 // What every public call answers.
 pub enum Answer {
     // A finished call, with its count.
@@ -80,7 +116,7 @@ fn long(s: &[u8], p: u16) -> u32
 pub fn count_at(s: &[u8], p: u16) -> CountRead
     ensures { λ r. ⌜ r ≡ countRead (now (s .entry)) p ⌝ }
 {
-    if s.len() < (p as usize) + 2 {
+    if s.len() < (p as usize) + COUNT_BYTES {
         CountRead::Short
     } else {
         CountRead::Whole(word(s, p))
@@ -117,7 +153,7 @@ pub fn module_record(s: &[u8], p: u16) -> Module
 pub fn module_at(s: &[u8], p: u16) -> ModuleRead
     ensures { λ r. ⌜ r ≡ moduleRead (now (s .entry)) p ⌝ }
 {
-    if s.len() < (p as usize) + 7 {
+    if s.len() < (p as usize) + MODULE_BYTES {
         ModuleRead::Short
     } else {
         ModuleRead::Whole(module_record(s, p))
@@ -139,7 +175,7 @@ pub fn event_record(s: &[u8], p: u16) -> Event
 pub fn event_at(s: &[u8], p: u16) -> EventRead
     ensures { λ r. ⌜ r ≡ eventRead (now (s .entry)) p ⌝ }
 {
-    if s.len() < (p as usize) + 6 {
+    if s.len() < (p as usize) + EVENT_BYTES {
         EventRead::Short
     } else {
         EventRead::Whole(event_record(s, p))

@@ -1,8 +1,5 @@
 // Reads a horizon and a sheet from standard input, runs the sheet and prints its listing.
 
-// The bytes of the horizon, and one more than the longest sheet has.
-const INPUT: usize = 8461;
-
 // The bytes that are lent for the listing.
 const LISTING: usize = 60000;
 
@@ -10,7 +7,7 @@ const LISTING: usize = 60000;
 const TEXT: usize = 130014;
 
 fn main() {
-    let mut input = [0u8; INPUT];
+    let mut input = [0u8; program::INPUT];
     let n = io::read_full(0, &mut input);
     let mut listing = [0u8; LISTING];
     let mut text = [0u8; TEXT];

@@ -3,7 +3,7 @@ use mathlib.Core.List.{List, [], _∷_, _++_, append-assoc, append-nil}
 use mathlib.Core.Path.{_≡_, sym, ap, _∙_}
 use Prim.Native.Nat.{ℕ, suc, _+_, _<_, _≤_}
 use native.Mathlib.Omega.{arith}
-use lib.ListN.{length, take, drop, set, getD, length-append, length-take, length-drop, drop-of-length-le}
+use lib.ListN.{length, drop, set, getD, length-append, length-take, length-drop, drop-of-length-le}
 use lib.Seq.{take-nil, take-all, drop-cons, set-at, take-append-le}
 use Rattle.text.specs.Lent.{textAfter, Printed, Prints}
 

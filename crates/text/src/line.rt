@@ -3,6 +3,7 @@ use crate::put::put;
 use crate::put::put_decimal;
 use crate::put::put_field;
 use level::Level;
+use sheet::EVENT_BYTES;
 ghost use mathlib.Core.Path.{_≡_};
 ghost use Prim.Native.Nat.{_<_};
 ghost use Rattle.level.specs.Level.{printed};
@@ -55,7 +56,7 @@ pub(crate) fn put_lines(text: &mut [u8], at: usize, count: u32, listing: &[u8]) 
     let mut to = at;
     let mut i: u32 = 0;
     while i < count {
-        to = put_record(text, to, listing, 6 * (i as usize));
+        to = put_record(text, to, listing, EVENT_BYTES * (i as usize));
         i += 1;
     }
     to

@@ -10,7 +10,8 @@ ghost use Rattle.network.specs.Run.{ran, bufferAfter};
 pub fn check(sheet: &[u8]) -> Answer
     ensures { λ r. ⌜ outcomeOf r ≡ checked (now (sheet .entry)) ⌝ }
 {
-    let a = refusals::bytes_refusal(sheet);
+    let contents = refusals::read_sheet(sheet);
+    let a = contents.answer;
     let Answer::Ran(_) = a else {
         return a;
     };

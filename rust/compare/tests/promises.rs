@@ -65,3 +65,26 @@ fn a_missing_name_is_seen() {
     assert_eq!(found[0].names, ["a", "b"]);
     assert_eq!(found[1].file, "e/f.rt");
 }
+
+/// The crates whose definitions must be believed.
+const BELIEVED: [&str; 7] = [
+    "level", "sheet", "order", "format", "network", "text", "program",
+];
+
+/// How many lines of a crate's definitions are not empty.
+fn definition_lines(name: &str) -> usize {
+    let folder = repository().join("crates").join(name).join("specs");
+    fs::read_dir(folder)
+        .unwrap()
+        .map(|entry| fs::read_to_string(entry.unwrap().path()).unwrap())
+        .map(|text| text.lines().filter(|line| !line.trim().is_empty()).count())
+        .sum()
+}
+
+#[test]
+fn the_length_of_the_definitions() {
+    let page = fs::read_to_string(repository().join("docs/PROMISES.md")).unwrap();
+    let lines: usize = BELIEVED.iter().map(|name| definition_lines(name)).sum();
+    let said = format!("{lines} lines that are not empty");
+    assert!(page.contains(&said), "the page does not say: {said}");
+}

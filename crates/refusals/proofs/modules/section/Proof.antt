@@ -1,6 +1,6 @@
 -- `refusals::modules::section` meets its contract: the count's rows, and then the records'. Assumes nothing.
 use mathlib.Core.Path.{sym, ap, _∙_}
-use Prim.Native.Nat.{_+_, zero-le}
+use Prim.Native.Nat.{zero-le}
 use borrow.Author.Needs.{needs}
 use Rattle.sheet.specs.Refusal.{moduleRows}
 use Rattle.sheet.specs.Wiring.{drivenBy}
@@ -8,9 +8,6 @@ use Rattle.sheet.proofs.Rows.{finished≢refused}
 use Rattle.refusals.proofs.CountRows.{count-short, count-high, count-fine, count-is}
 use Rattle.refusals.proofs.modules.section.Statement.{statement}
 use Rattle.refusals.proofs.modules.section.Tie as tie
-
-add-place : tie.Need-add-place
-add-place c = search needs
 
 count-at-requires : tie.Need-count-at-requires
 count-at-requires c κs = search needs
@@ -21,18 +18,12 @@ enum-known-n c = search needs
 enum-told : tie.Need-enum-told
 enum-told c = search needs
 
-cast-t7 : tie.Need-cast-t7
-cast-t7 c = search needs
-
 returns : tie.Need-returns
 returns c =
     let a = c .before .before in
     let start = a .before .before in
     let s = start .args .s .now in
-    (count-short s 0 256 (moduleRows s) (ap (λ n. 2 + n) (start .pre .0)) (a .count-at .ensures) (c .enum-told .given .1), λ f. absurd (finished≢refused (sym f)))
-
-cast-t9 : tie.Need-cast-t9
-cast-t9 c = search needs
+    (count-short s 0 256 (moduleRows s) (start .pre .0) (a .count-at .ensures) (c .enum-told .given .1), λ f. absurd (finished≢refused (sym f)))
 
 returns-2 : tie.Need-returns-2
 returns-2 c =
@@ -40,7 +31,7 @@ returns-2 c =
     let a = n .before .before in
     let start = a .before .before in
     let s = start .args .s .now in
-    (count-high s 0 256 (moduleRows s) (ap (λ n. 2 + n) (start .pre .0)) (a .count-at .ensures) (n .n .given .1) zero-le (c .if1 .taken), λ f. absurd (finished≢refused (sym f)))
+    (count-high s 0 256 (moduleRows s) (start .pre .0) (a .count-at .ensures) (n .n .given .1) zero-le (c .if1 .taken), λ f. absurd (finished≢refused (sym f)))
 
 add-module-records : tie.Need-add-module-records
 add-module-records c = search needs
@@ -54,7 +45,7 @@ returns-3 c =
     let a = n .before .before in
     let start = a .before .before in
     let s = start .args .s .now in
-    let stands = ap (λ n. 2 + n) (start .pre .0) in
+    let stands = start .pre .0 in
     let told = c .module-records .ensures in (
       count-fine s 0 256 (moduleRows s) stands (a .count-at .ensures) (n .n .given .1) zero-le (c .before .before .if1 .left) (told .0),
       λ f v h. told .1 f v h ∙ ap (λ n. drivenBy s n v) (count-is s 0 256 (moduleRows s) stands (a .count-at .ensures) (n .n .given .1)),
@@ -64,13 +55,10 @@ pub section-spec : {M : Type 1} → statement M
 section-spec =
     tie.close
     (tie.spec
-    add-place
     count-at-requires
     enum-known-n
     enum-told
-    cast-t7
     returns
-    cast-t9
     returns-2
     add-module-records
     module-records-requires

@@ -11,16 +11,16 @@ use Rattle.refusals.proofs.nodes.node_records.Statement.{statement}
 use Rattle.refusals.proofs.nodes.node_records.Tie as tie
 
 abbrev Inv-loop : tie.InvT-loop
-Inv-loop s n v₀ v = (v ≤ n) × (first (each v (nodeRows s)) ≡ finished 0)
+Inv-loop s start n v₀ v = (v ≤ n) × (first (each v (nodeRows s)) ≡ finished 0)
 
 abbrev μ-loop : tie.MeasureT-loop
-μ-loop s n v₀ v = n - v
+μ-loop s start n v₀ v = n - v
 
 loop-holds : tie.Need-loop-holds Inv-loop μ-loop
 loop-holds c = (search needs, none-yet _)
 
 node-refusal-requires : tie.Need-node-refusal-requires Inv-loop μ-loop
-node-refusal-requires c κs = omega arith
+node-refusal-requires c κs = search needs
 
 enum-told : tie.Need-enum-told Inv-loop μ-loop
 enum-told c = search needs

@@ -1,5 +1,4 @@
 -- `refusals::nodes::section` meets its contract: the count's rows, and then the records'. Assumes nothing.
-use mathlib.Core.Path.{refl}
 use borrow.Author.Needs.{needs}
 use Rattle.sheet.specs.Refusal.{nodeRows}
 use Rattle.refusals.proofs.CountRows.{count-short, count-low, count-high, count-fine}
@@ -18,22 +17,28 @@ enum-told c = search needs
 returns : tie.Need-returns
 returns c =
     let a = c .before .before in
-    let s = a .before .before .args .s .now in
-    count-short s 1 256 (nodeRows s) refl (a .count-at .ensures) (c .enum-told .given .1)
+    let start = a .before .before in
+    let s = start .args .s .now in
+    count-short s 1 256 (nodeRows s) (start .pre) (a .count-at .ensures) (c .enum-told .given .1)
 
 returns-2 : tie.Need-returns-2
 returns-2 c =
     let n = c .before .before in
     let a = n .before .before in
-    let s = a .before .before .args .s .now in
-    count-low s 1 256 (nodeRows s) refl (a .count-at .ensures) (n .n .given .1) (c .if1 .taken)
+    let start = a .before .before in
+    let s = start .args .s .now in
+    count-low s 1 256 (nodeRows s) (start .pre) (a .count-at .ensures) (n .n .given .1) (c .if1 .taken)
 
 returns-3 : tie.Need-returns-3
 returns-3 c =
     let n = c .before .before .before in
     let a = n .before .before in
-    let s = a .before .before .args .s .now in
-    count-high s 1 256 (nodeRows s) refl (a .count-at .ensures) (n .n .given .1) (c .before .if1 .left) (c .if2 .taken)
+    let start = a .before .before in
+    let s = start .args .s .now in
+    count-high s 1 256 (nodeRows s) (start .pre) (a .count-at .ensures) (n .n .given .1) (c .before .if1 .left) (c .if2 .taken)
+
+add-node-records : tie.Need-add-node-records
+add-node-records c = search needs
 
 node-records-requires : tie.Need-node-records-requires
 node-records-requires c κs = search needs
@@ -42,8 +47,9 @@ returns-4 : tie.Need-returns-4
 returns-4 c =
     let n = c .before .before .before .before in
     let a = n .before .before in
-    let s = a .before .before .args .s .now in
-    count-fine s 1 256 (nodeRows s) refl (a .count-at .ensures) (n .n .given .1) (c .before .before .if1 .left) (c .before .if2 .left) (c .node-records .ensures)
+    let start = a .before .before in
+    let s = start .args .s .now in
+    count-fine s 1 256 (nodeRows s) (start .pre) (a .count-at .ensures) (n .n .given .1) (c .before .before .if1 .left) (c .before .if2 .left) (c .node-records .ensures)
 
 pub section-spec : {M : Type 1} → statement M
 section-spec =
@@ -55,5 +61,6 @@ section-spec =
     returns
     returns-2
     returns-3
+    add-node-records
     node-records-requires
     returns-4)

@@ -2,7 +2,7 @@
 use borrow.Author.Needs.{needs}
 use mathlib.Core.Path.{refl}
 use native.Mathlib.Omega.{arith}
-use lib.ListN.{length, take, length-take}
+use lib.ListN.{take, length-take}
 use Rattle.run.proofs.FreshLists.{fresh-few}
 use Rattle.run.proofs.list.list.Statement.{statement}
 use Rattle.run.proofs.list.list.Tie as tie

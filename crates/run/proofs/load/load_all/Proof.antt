@@ -5,12 +5,6 @@ use Rattle.run.proofs.Loaded.{started}
 use Rattle.run.proofs.load.load_all.Statement.{statement}
 use Rattle.run.proofs.load.load_all.Tie as tie
 
-add-load-modules : tie.Need-add-load-modules
-add-load-modules c = search needs
-
-add-load-modules-2 : tie.Need-add-load-modules-2
-add-load-modules-2 c = search needs
-
 load-modules-requires : tie.Need-load-modules-requires
 load-modules-requires c κs = search needs
 
@@ -33,8 +27,6 @@ pub load-all-spec : {M : Type 1} → statement M
 load-all-spec =
     tie.close
     (tie.spec
-    add-load-modules
-    add-load-modules-2
     load-modules-requires
     load-values-requires
     load-last-requires

@@ -4,9 +4,6 @@ use Rattle.run.proofs.Loading.{module-put}
 use Rattle.run.proofs.load.load_module.Statement.{statement}
 use Rattle.run.proofs.load.load_module.Tie as tie
 
-module-record-requires : tie.Need-module-record-requires
-module-record-requires c κs = search needs
-
 mul-at : tie.Need-mul-at
 mul-at c = search needs
 
@@ -44,15 +41,12 @@ element-write-delays : tie.Need-element-write-delays
 element-write-delays c = search needs
 
 returns : tie.Need-returns
-returns c =
-    let t = c .before .before in
-    rw (← c .module-record .ensures) (module-put (t .pre .1) (t .args .k) (t .pre .0) (c .module-record .result))
+returns c = module-put (c .pre .1) (c .args .k) (c .pre .0) (c .args .m)
 
 pub load-module-spec : {M : Type 1} → statement M
 load-module-spec =
     tie.close
     (tie.spec
-    module-record-requires
     mul-at
     element-write-table
     add-table

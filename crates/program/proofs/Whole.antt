@@ -1,0 +1,108 @@
+-- The program prints all of its text: after a finished run the count and a line for each record of the run, and the lent text takes it whole. Assumes nothing.
+use mathlib.Core.List.{List, [], _∷_, _++_, List·Memᴰ}
+use mathlib.Core.Path.{_≡_, refl, sym, ap, _∙_, subst}
+use native.Mathlib.Omega.{arith}
+use Prim.Native.Nat.{ℕ, suc, _-_, _<_, _≤_}
+use lib.ListN.{length, take, drop, length-append}
+use lib.Seq.{take-all, take-at}
+use Rattle.sheet.specs.declared.Event.{Event}
+use Rattle.sheet.specs.Outcome.{Outcome, finished, refused}
+use Rattle.sheet.proofs.Rows.{finished≢refused}
+use Rattle.format.specs.Sheet.{sheetOf}
+use Rattle.format.proofs.Accepted.{accepted}
+use Rattle.network.specs.Listing.{listing}
+use Rattle.network.specs.Run.{room, Written, cellsOf, ran}
+use Rattle.network.specs.RunConditions.{RunCondition, horizon-outside, sheet-refused, no-room, crowded, whole}
+use Rattle.network.proofs.Listing.{listing-of, watched-bytes}
+use Rattle.network.proofs.RunConditions.{run-conditions}
+use Rattle.text.specs.Decimal.{decimal}
+use Rattle.text.specs.Lent.{Printed}
+use Rattle.text.specs.Printing.{blank, newline, recordsWord, refusedWord, printedText}
+use Rattle.program.specs.Program.{sheetIn, horizonIn, runOf, listingOf, programText}
+use Rattle.program.specs.Room.{lentBytes, textBytes}
+use Rattle.program.proofs.Lines.{linesOf, lines-printed, lines-length, few-digits, at-most-ten}
+
+-- of a finished run: the count is that of the records, which the buffer takes, and their ticks and nodes are in range
+pub record Ended (bytes n : ℕ) (records : List Event) : Type 0 where
+  pub counted : n ≡ length records
+  pub fits : n ≤ room bytes
+  pub small : (r : Event) → List·Memᴰ r records → (r .tick < 1000000) × (r .node < 256)
+
+count-of : {m n : ℕ} → finished m ≡ finished n → m ≡ n
+count-of e = ap (λ (o : Outcome). elim o [ finished k ↦ k | refused a b c ↦ 0 ]) e
+
+last-tick : {horizon : ℕ} → 0 < horizon → suc (horizon - 1) ≡ horizon
+last-tick h = omega arith
+
+module _ (s : List ℕ) (horizon bytes : ℕ) where
+  ended-so : (n : ℕ) (w : Written) → RunCondition s horizon bytes w → w .answer ≡ finished n → Ended bytes n (w .records)
+  ended-so n w (horizon-outside h) e = absurd (finished≢refused (sym e))
+  ended-so n w (sheet-refused h k r) e = absurd (finished≢refused (sym e))
+  ended-so n w (no-room t f o) e = absurd (finished≢refused (sym e))
+  ended-so n w (crowded t f r p) e = absurd (finished≢refused (sym e))
+  ended-so n w (whole b all) e =
+      record {
+        counted = sym (count-of e);
+        fits = omega (arith, count-of e, subst (λ k. length (listing (sheetOf s) (cellsOf s horizon) k) ≤ room bytes) (last-tick (b .some-tick)) (all (horizon - 1) (omega (arith, b .some-tick)) .room-left));
+        small = λ r m.
+            let acc = accepted s (b .accepted) in
+            let shown = listing-of s acc (cellsOf s horizon) horizon .shown r m in
+            (omega (arith, shown .below, b .few-ticks), watched-bytes s acc (r .node) (shown .watched));
+      }
+
+  pub ended : (n : ℕ) → ran s horizon bytes .answer ≡ finished n → Ended bytes n (ran s horizon bytes .records)
+  ended n = ended-so n (ran s horizon bytes) (run-conditions s horizon bytes (ran s horizon bytes) .0 refl)
+
+module _ (input listing : List ℕ) where
+  abbrev run : Written
+  run = runOf input (length listing)
+
+  -- after a finished run: the word, the count, and a line for each record of the run
+  pub records-printed : (n : ℕ) → run .answer ≡ finished n → programText input listing ≡ recordsWord ++ blank ∷ decimal n ++ newline ∷ linesOf (run .records)
+  unfolding programText printedText
+  records-printed n e =
+      let x = ended (sheetIn input) (horizonIn input) (length listing) n e in
+      ap (λ o. printedText o (listingOf input listing)) e
+      ∙ ap (λ l. recordsWord ++ blank ∷ decimal n ++ newline ∷ l) (lines-printed (run .records) listing n (x .counted) (λ r m. omega (arith, x .small r m .0)))
+
+  -- after a refusal: the word, its number and its place
+  pub refusal-printed : (n p k : ℕ) → run .answer ≡ refused n p k → programText input listing ≡ refusedWord ++ blank ∷ decimal n ++ blank ∷ decimal p ++ newline ∷ []
+  unfolding programText printedText
+  refusal-printed n p k e = ap (λ o. printedText o (listingOf input listing)) e
+
+-- The text that the program lends takes all that is printed.
+module _ (input listing : List ℕ) (lent : length listing ≡ lentBytes) where
+  finished-length : (n : ℕ) → run input listing .answer ≡ finished n → length (programText input listing) ≤ textBytes
+  finished-length n e =
+      let x = ended (sheetIn input) (horizonIn input) (length listing) n e in
+      let count : n ≤ 10000 = omega (arith, x .fits, lent) in
+      let digits : length (decimal n) ≤ 5 = few-digits 10 4 n (omega (arith, count)) in
+      let lines = lines-length (run input listing .records) (λ r m. (x .small r m .0, omega (arith, x .small r m .1))) in
+      rw (records-printed input listing n e)
+      (omega (arith, count, digits, lines, x .counted, length-append (recordsWord ++ blank ∷ decimal n) (newline ∷ linesOf (run input listing .records)), length-append recordsWord (blank ∷ decimal n)))
+
+  refused-length : (n p k : ℕ) → run input listing .answer ≡ refused n p k → length (programText input listing) ≤ textBytes
+  refused-length n p k e =
+      rw (refusal-printed input listing n p k e)
+      (omega (arith, at-most-ten 10 n, at-most-ten 10 p, length-append (refusedWord ++ blank ∷ decimal n ++ blank ∷ decimal p) (newline ∷ []), length-append (refusedWord ++ blank ∷ decimal n) (blank ∷ decimal p), length-append refusedWord (blank ∷ decimal n)))
+
+  pub room-for-all : length (programText input listing) ≤ textBytes
+  room-for-all = by (run input listing .answer) refl
+    where
+      by : (o : Outcome) → run input listing .answer ≡ o → length (programText input listing) ≤ textBytes
+      by (finished n) e = finished-length n e
+      by (refused n p k) e = refused-length n p k e
+
+  -- so what is printed is the program's text, whole
+  pub all-printed : {start text : List ℕ} {at : ℕ} → length start ≡ textBytes → Printed start (programText input listing) text at → (at ≡ length (programText input listing)) × (take at text ≡ programText input listing)
+  all-printed {start} {text} {at} size p = (
+    whole-length,
+    ap (take at) (p .holds ∙ ap (λ l. l ++ drop (length printed) start) (take-all (length start) printed (omega (arith, room-for-all, size))))
+        ∙ take-at printed (drop (length printed) start) at (sym whole-length),
+  )
+    where
+      printed : List ℕ
+      printed = programText input listing
+
+      whole-length : at ≡ length (programText input listing)
+      whole-length = p .place ∙ omega (arith, room-for-all, size)
