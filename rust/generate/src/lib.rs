@@ -19,6 +19,7 @@ mod reorder;
 mod room;
 mod run;
 mod run_mixture;
+pub mod shared;
 pub mod sheets;
 mod valid;
 mod zero_delay;

@@ -5,16 +5,6 @@ use plain::{worked_run, HIGH, INPUT, LOW, UNKNOWN};
 
 use crate::agreed::{agreed, listed, Outcome};
 
-/// The records of the worked run.
-const WORKED_RECORDS: [Record; 6] = [
-    (0, 0, 0),
-    (0, 1, 2),
-    (3, 1, 1),
-    (5, 0, 1),
-    (8, 1, 0),
-    (11, 1, 1),
-];
-
 fn worked(length: usize) -> Outcome {
     let whence = format!("the worked run in {length} bytes");
     agreed(worked_run::SHEET, worked_run::HORIZON, length, &whence)
@@ -24,14 +14,14 @@ fn worked(length: usize) -> Outcome {
 fn worked_run_in_36_bytes() {
     let Outcome { answer, listing } = worked(36);
     assert_eq!(answer, [0, 0, 6]);
-    assert_eq!(records(&listing), WORKED_RECORDS);
+    assert_eq!(records(&listing), worked_run::RECORDS);
 }
 
 #[test]
 fn worked_run_in_35_bytes() {
     let Outcome { answer, listing } = worked(35);
     assert_eq!(answer, [19, 11, 5]);
-    assert_eq!(records(&listing), WORKED_RECORDS[..5]);
+    assert_eq!(records(&listing), worked_run::RECORDS[..5]);
 }
 
 #[test]

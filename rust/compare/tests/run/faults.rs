@@ -1,6 +1,7 @@
 //! Document 01's "Faults seen in such simulators": for each a sheet on which a simulator with the
 //! fault goes wrong, and the proved library does not.
 
+use generate::shared::memory_after_gates;
 use generate::sheets::*;
 use generate::{room_for_all, Generator, RunInput};
 use plain::{read, renumbered, Sheet, HIGH, INPUT, LOW, UNKNOWN};
@@ -61,21 +62,9 @@ fn only_modules_with_a_changed_input_are_worked_at_tick_0() {
     shown(Fault::QuietStart, &constant, &right, &right[..1]);
 }
 
-/// A memory of delay zero whose control is the XOR of an input and its buffer: always low, but
-/// high inside tick 4 to whoever looks before the buffer has settled.
-fn memory_after_gates() -> Sheet {
-    let modules = [
-        memory(0b0010, [0, 2], 3, 0),
-        gate(XOR, [0, 1], 2, 0),
-        gate(BUFFER, [0, 0], 1, 0),
-    ];
-    let drive = [(0, 0, 0), (4, 0, 1), (8, 0, 0)];
-    sheet(&[INPUT, LOW, LOW, UNKNOWN], &modules, &drive, &[2, 3])
-}
-
 #[test]
 fn a_memory_catches_a_passing_value_inside_a_tick() {
-    let as_listed = memory_after_gates();
+    let as_listed = memory_after_gates(&[2, 3]);
     let right = [(0, 2, 0), (0, 3, 2)];
     // The passing value is caught at both edges and never listed itself.
     let wrong = [(0, 2, 0), (0, 3, 2), (4, 3, 1), (8, 3, 0)];

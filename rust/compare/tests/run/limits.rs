@@ -1,27 +1,11 @@
 //! Every limit of a run, met and passed by one.
 
 use generate::limits::RECORD_BYTES;
+use generate::shared::{four_buffers, toggled};
 use generate::sheets::*;
-use plain::{worked_run, Module, Sheet, HIGH, INPUT, LOW, UNKNOWN};
+use plain::{worked_run, Sheet, HIGH, INPUT, LOW, UNKNOWN};
 
 use crate::agreed::{agreed, Outcome};
-
-/// An input that changes at each of its 1,024 events, and modules that read it.
-fn toggled(modules: &[Module]) -> Sheet {
-    let mut nodes = vec![LOW; modules.len()];
-    nodes.insert(0, INPUT);
-    let value = |tick: u32| u8::from(tick.is_multiple_of(2));
-    let drive: Vec<_> = (0..1_024).map(|tick| (tick, 0, value(tick))).collect();
-    sheet(&nodes, modules, &drive, &[0])
-}
-
-/// Four buffers whose 1,024 changes each are all pending after tick 1,023.
-fn four_buffers() -> Vec<Module> {
-    let outputs = 1..=4;
-    outputs
-        .map(|output| gate(BUFFER, [0, 0], output, 5_000))
-        .collect()
-}
 
 fn run(sheet: &Sheet, horizon: u32, length: usize) -> Outcome {
     agreed(&sheet.encode(), horizon, length, "at a limit")

@@ -3,16 +3,6 @@
 use crate::support::*;
 use plain::{worked_run, Answer, HIGH, INPUT, LOW, UNKNOWN};
 
-/// The records of the worked run.
-const WORKED_RECORDS: [(u32, u8, u8); 6] = [
-    (0, 0, 0),
-    (0, 1, 2),
-    (3, 1, 1),
-    (5, 0, 1),
-    (8, 1, 0),
-    (11, 1, 1),
-];
-
 #[test]
 fn worked_run_prints_as_stated() {
     let printed = plain::program(&worked_run::INPUT);
@@ -47,14 +37,14 @@ fn worked_run_has_the_stated_cells() {
 fn worked_run_in_36_bytes() {
     let (answer, listing) = run(worked_run::SHEET, worked_run::HORIZON, 36);
     assert_eq!(answer, Answer::Ran { count: 6 });
-    assert_eq!(records(&listing), WORKED_RECORDS);
+    assert_eq!(records(&listing), worked_run::RECORDS);
 }
 
 #[test]
 fn worked_run_in_35_bytes() {
     let (answer, listing) = run(worked_run::SHEET, worked_run::HORIZON, 35);
     assert_eq!(answer.triple(), [19, 11, 5]);
-    assert_eq!(records(&listing[..30]), WORKED_RECORDS[..5]);
+    assert_eq!(records(&listing[..30]), worked_run::RECORDS[..5]);
     assert_eq!(listing[30..], [UNTOUCHED; 5]);
 }
 

@@ -1,7 +1,8 @@
 //! Document 01's "Faults seen in such simulators", none of which is to be seen here.
 
 use crate::support::*;
-use plain::{renumbered, Sheet, HIGH, INPUT, LOW, NONE, UNKNOWN};
+use generate::shared::memory_after_gates;
+use plain::{renumbered, HIGH, INPUT, LOW, UNKNOWN};
 
 #[test]
 fn both_changes_of_a_tick_count() {
@@ -45,22 +46,10 @@ fn a_constant_shows_after_its_delay() {
     assert_eq!(listed(&constant, 4), [(0, 0, 2)]);
 }
 
-/// A memory of delay zero whose control settles only after its gates have: the XOR of an input
-/// and its buffer is always low, but shows a pulse inside tick 4 to whoever looks too early.
-fn memory_after_gates() -> Sheet {
-    let modules = [
-        memory(0b0010, [0, 2], 3, 0),
-        gate(XOR, [0, 1], 2, 0),
-        gate(BUFFER, [0, 0], 1, 0),
-    ];
-    let drive = [(0, 0, 0), (4, 0, 1), (8, 0, 0)];
-    sheet(&[INPUT, NONE, NONE, UNKNOWN], &modules, &drive, &[1, 2, 3])
-}
-
 #[test]
 fn a_memory_catches_nothing_inside_a_tick() {
     let expected = [(0, 1, 0), (0, 2, 0), (0, 3, 2), (4, 1, 1), (8, 1, 0)];
-    let sheet = memory_after_gates();
+    let sheet = memory_after_gates(&[1, 2, 3]);
     assert_eq!(listed(&sheet, 12), expected);
     let reversed = renumbered(&sheet, &[0, 1, 2, 3], &[2, 1, 0]);
     assert_eq!(listed(&reversed, 12), expected);

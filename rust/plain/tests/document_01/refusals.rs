@@ -1,23 +1,8 @@
 //! Refusals 1, 19 and 20, and what a refusal leaves in the buffer.
 
 use crate::support::*;
-use plain::{worked_run, Answer, Module, Sheet, HIGH, INPUT, LOW};
-
-/// An input that changes at each of its 1,024 events, and modules that read it.
-fn toggled(modules: &[Module]) -> Sheet {
-    let mut nodes = vec![LOW; modules.len()];
-    nodes.insert(0, INPUT);
-    let value = |tick: u32| u8::from(tick.is_multiple_of(2));
-    let drive: Vec<_> = (0..1_024).map(|tick| (tick, 0, value(tick))).collect();
-    sheet(&nodes, modules, &drive, &[0])
-}
-
-/// Four buffers whose 1,024 changes each are all pending after tick 1,023.
-fn four_buffers() -> Vec<Module> {
-    (1..=4)
-        .map(|output| gate(BUFFER, [0, 0], output, 5_000))
-        .collect()
-}
+use generate::shared::{four_buffers, toggled};
+use plain::{worked_run, Answer, HIGH, LOW};
 
 #[test]
 fn pending_4096_passes() {
