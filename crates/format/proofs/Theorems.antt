@@ -3,6 +3,8 @@ use mathlib.Core.List.{List}
 use mathlib.Core.Logic.{_↔_, _⊎_}
 use mathlib.Core.Path.{_≡_}
 use Prim.Native.Nat.{ℕ, _<_, _≤_}
+use native.Mathlib.Omega.{arith}
+use lib.ListN.{length}
 use Rattle.sheet.specs.Layout.{eventCount, eventOf}
 use Rattle.sheet.specs.Outcome.{finished, refused}
 use Rattle.sheet.specs.Loop.{LeastOnLoop}
@@ -53,3 +55,9 @@ read-as-written sheet fits small = (read-encode sheet fits, encode-bytes sheet s
 -- The sheet in any bytes has numbers that fit.
 pub read-fits : (s : List ℕ) → Bytes s → Encodable (sheetOf s) × OneByteEach (sheetOf s)
 read-fits s bytes = (encodable s bytes, one-byte-each s bytes)
+
+-- document 01, "The program": the longest sheet has 8,456 bytes
+pub longest-sheet : (s : List ℕ) → checked s ≡ finished 0 → length s ≤ 8456
+longest-sheet s c =
+    let acc = accepted s c in
+    omega (arith, acc .whole, acc .nodes, acc .modules, acc .events, acc .watched)
