@@ -1,27 +1,40 @@
--- A check finishes exactly on the sheets that are accepted: no condition of the refusals' table is met.
+-- A check finishes exactly on the bytes that are accepted: no condition of the refusals' table is met.
 -- Assumes nothing.
+use lib.Dec.{lit<, lit≤}
 use lib.ListN.{length}
 use mathlib.Core.List.{List}
 use mathlib.Core.Logic.{_⊎_, inl, inr, Dec·not-not}
-use mathlib.Core.Path.{_≡_, sym, subst}
+use mathlib.Core.Path.{_≡_, sym, ap, _∙_, subst, subst₂}
 use native.Mathlib.Decide.{ℕ-discrete}
-use native.Mathlib.Nat.{lt-of-not-le, not-le-of-lt, le-antisymm, le-refl, le-of-eq, le-trans}
+use native.Mathlib.Nat.{lt-of-not-le, not-le-of-lt, le-antisymm, le-refl, le-of-eq, le-trans, mul-le-mul-left, mul-suc}
 use native.Mathlib.Omega.{arith}
 use Prim.Native.Nat.{ℕ, zero, suc, _+_, _<_, _≤_, zero-le}
+use Rattle.level.specs.Kind.{lastKind}
+use Rattle.sheet.specs.declared.Edition.{Edition}
+use Rattle.sheet.specs.Limits.{inputByte, lastValue}
 use Rattle.sheet.specs.Outcome.{finished}
 use Rattle.sheet.specs.Bytes.{wordAt}
-use Rattle.sheet.specs.Layout.{countSize, nodeCount, nodeByte, moduleCount, moduleOf, eventCount, eventOf, watchedPlace, watchedCount, watchedNode, sheetEnd}
-use Rattle.sheet.specs.Wiring.{isInput}
-use Rattle.sheet.specs.Loop.{Chain, link, more, OnLoop}
-use Rattle.sheet.specs.Refusal.{drivenAtStart, key, checked}
-use Rattle.format.specs.Accepted.{Driven, Input, SoundModule, SoundEvent, Accepted}
+use Rattle.sheet.specs.Sheet.{Sheet, nodeCount, nodeByte, moduleCount, moduleOf, outputOf, eventCount, eventOf, watchedCount, watchedNode}
+use Rattle.sheet.specs.Layout.{countSize, nodesCounted, nodeAt, modulesCounted, moduleAt, eventsCounted, eventAt, watchedPlace, watchedCounted, watchedAt, sheetEnd, sheetOf}
+use Rattle.sheet.specs.Wiring.{isInput, drivenAtStart}
+use Rattle.sheet.specs.Loop.{Chain, link, more, OnLoop, Outputs}
+use Rattle.sheet.specs.Refusal.{key, checked}
+use Rattle.format.specs.Accepted.{Driven, Input, SoundModule, SoundEvent, Accepted, Known, the-first, AcceptedIn}
 use Rattle.format.specs.Condition.{Count, of-nodes, of-modules, of-drive, of-watched, Part, a-count, a-node, a-module, an-event, a-watched, Miswired, output-no-node, input-no-node, unused-not-0, NotAbove, not-above, Condition, ends-inside, outside-range, byte-above, kind-above, parameter-not-allowed, wrong-wiring, delay-above, already-driven, driven-or-not, tick-above, not-an-input, value-above, not-above-before, no-first-event, wrong-watched, left-over, on-loop}
 use Rattle.sheet.proofs.Tests.{decided, at-most}
-use Rattle.order.proofs.Chains.{loop-test}
+use Rattle.sheet.proofs.Parts.{node-count, node-byte, module-count, module-of, event-count, event-of, watched-count, watched-node}
+use Rattle.format.proofs.Chains.{loop-test}
 use Rattle.format.proofs.Condition.{tells-input, tells-at-start}
 use Rattle.format.proofs.Checked.{finished-iff}
 
-other-than-4 : {a : ℕ} → a ≤ 4 → (a ≡ 4 → ⊥) → a ≤ 3
+-- a known edition's module records have some size, and its kinds have rules
+pub some-size : {E : Edition} → Known E → 0 < E .size
+some-size the-first = lit< tt
+
+pub with-rules : {E : Edition} → Known E → E .greatest ≤ lastKind
+with-rules the-first = lit≤ tt
+
+other-than-4 : {a : ℕ} → a ≤ inputByte → (a ≡ inputByte → ⊥) → a ≤ lastValue
 other-than-4 h d = omega arith
 
 -- what rises from each number to the next rises from each to every later one
@@ -39,137 +52,198 @@ filled place zero l counted records = omega arith
 filled place (suc count) l counted records = omega (arith, records count (omega arith))
 
 -- a chain starts with a module
-chain-from : {s : List ℕ} {a b : ℕ} → Chain s a b → a < moduleCount s
+chain-from : {S : Sheet} {a b : ℕ} → Chain S a b → a < moduleCount S
 chain-from (link f) = f .from
 chain-from (more f c) = f .from
 
--- Without a condition met.
-module _ (s : List ℕ) (none : (n p : ℕ) → Condition s n p → ⊥) where
-  fits : {p size : ℕ} → Part s p size → p + size ≤ length s
-  fits part = at-most (λ h. none _ _ (ends-inside part h))
+module _ (E : Edition) (s : List ℕ) where
+  abbrev S : Sheet
+  S = sheetOf E s
 
-  at-least : {p least greatest : ℕ} → Count s p least greatest → least ≤ wordAt s p
-  at-least c = at-most (λ h. none _ _ (outside-range c (inl h)))
+  -- a number below a count of the sheet is below that of the bytes
+  node : {v : ℕ} → v < nodeCount S → v < nodesCounted s
+  node h = rw (node-count E s) at h
 
-  in-range : {p least greatest : ℕ} → Count s p least greatest → wordAt s p ≤ greatest
-  in-range c = at-most (λ h. none _ _ (outside-range c (inr h)))
+  listed-module : {m : ℕ} → m < moduleCount S → m < modulesCounted s
+  listed-module h = rw (module-count E s) at h
 
-  module-sound : (m : ℕ) → m < moduleCount s → SoundModule (nodeCount s) (moduleOf s m)
-  module-sound m h =
-      record {
-        kind = at-most (λ c. none _ _ (kind-above m h c));
-        parameter = at-most (λ c. none _ _ (parameter-not-allowed m h c));
-        output = lt-of-not-le (λ c. none _ _ (wrong-wiring m h (output-no-node c)));
-        used = λ v u. lt-of-not-le (λ c. none _ _ (wrong-wiring m h (input-no-node v u c)));
-        unused = λ v u. omega (arith, at-most (λ c. none _ _ (wrong-wiring m h (unused-not-0 v u c))));
-        delay = at-most (λ c. none _ _ (delay-above m h c));
-      }
+  listed-event : {k : ℕ} → k < eventCount S → k < eventsCounted E s
+  listed-event h = rw (event-count E s) at h
 
-  event-sound : (e : ℕ) → e < eventCount s → SoundEvent s (eventOf s e)
-  event-sound e h =
-      record {
-        tick = at-most (λ c. none _ _ (tick-above e h c));
-        node = Dec·not-not (decided (isInput s (eventOf s e .node)) (tells-input s (eventOf s e .node))) .0 (λ c. none _ _ (not-an-input e h c));
-        value = at-most (λ c. none _ _ (value-above e h c));
-      }
+  listed-watched : {k : ℕ} → k < watchedCount S → k < watchedCounted E s
+  listed-watched h = rw (watched-count E s) at h
 
-  loop-node : {v : ℕ} → OnLoop s v → v < nodeCount s
-  loop-node l = subst (λ v. v < nodeCount s) (l .output) (module-sound (l .driver) (chain-from (l .closed)) .output)
+  -- Without a condition met.
+  module _ (known : Known E) (none : (n p : ℕ) → Condition E s n p → ⊥) where
+    fits : {p size : ℕ} → Part E s p size → p + size ≤ length s
+    fits part = at-most (λ h. none _ _ (ends-inside part h))
 
-  drivers : (a b : ℕ) → a < moduleCount s → b < moduleCount s → moduleOf s a .output ≡ moduleOf s b .output → a ≡ b
-  drivers a b i j e = omega (arith, at-most (λ l. none _ _ (already-driven b j a l e)), at-most (λ l. none _ _ (already-driven a i b l (sym e))))
+    at-least : {p least greatest : ℕ} → Count E s p least greatest → least ≤ wordAt s p
+    at-least c = at-most (λ h. none _ _ (outside-range c (inl h)))
 
-  events-rise : (k : ℕ) → suc k < eventCount s → key (eventOf s k) < key (eventOf s (suc k))
-  events-rise k h = lt-of-not-le (λ c. none _ _ (not-above-before (suc k) h (not-above k c)))
+    in-range : {p least greatest : ℕ} → Count E s p least greatest → wordAt s p ≤ greatest
+    in-range c = at-most (λ h. none _ _ (outside-range c (inr h)))
 
-  watched-rises : (k : ℕ) → suc k < watchedCount s → watchedNode s k < watchedNode s (suc k)
-  watched-rises k h = lt-of-not-le (λ c. none _ _ (wrong-watched (suc k) h (inr (not-above k c))))
+    kind-in-range : (m : ℕ) → m < modulesCounted s → moduleAt E s m .kind ≤ E .greatest
+    kind-in-range m h = at-most (λ c. none _ _ (kind-above m h c))
 
-  byte-in-range : (v : ℕ) → v < nodeCount s → nodeByte s v ≤ 4
-  byte-in-range v h = at-most (λ c. none _ _ (byte-above v h c))
+    module-sound : (m : ℕ) → m < modulesCounted s → SoundModule (nodesCounted s) (moduleAt E s m)
+    module-sound m h =
+        record {
+          kind = le-trans (kind-in-range m h) (with-rules known);
+          parameter = at-most (λ c. none _ _ (parameter-not-allowed m h c));
+          output = lt-of-not-le (λ c. none _ _ (wrong-wiring m h (output-no-node c)));
+          used = λ v u. lt-of-not-le (λ c. none _ _ (wrong-wiring m h (input-no-node v u c)));
+          unused = λ v u. omega (arith, at-most (λ c. none _ _ (wrong-wiring m h (unused-not-0 v u c))));
+          delay = at-most (λ c. none _ _ (delay-above m h c));
+        }
 
-  driven-byte : (v : ℕ) → v < nodeCount s → Driven s v → nodeByte s v ≤ 3
-  driven-byte v h d = other-than-4 (byte-in-range v h) (λ c. none _ _ (driven-or-not v h (inl (d, c))))
+    event-sound : (k : ℕ) → k < eventsCounted E s → SoundEvent S (eventAt E s k)
+    event-sound k h =
+        record {
+          tick = at-most (λ c. none _ _ (tick-above k h c));
+          node = Dec·not-not (decided (isInput S (eventAt E s k .node)) (tells-input S (eventAt E s k .node))) .0 (λ c. none _ _ (not-an-input k h c));
+          value = at-most (λ c. none _ _ (value-above k h c));
+        }
 
-  input-byte : (v : ℕ) → Input s v → nodeByte s v ≡ 4
-  input-byte v i = le-antisymm (byte-in-range v (i .node)) (at-most (λ c. none _ _ (driven-or-not v (i .node) (inr (i .undriven, c)))))
+    sound-modules : (m : ℕ) → m < moduleCount S → SoundModule (nodeCount S) (moduleOf S m)
+    sound-modules m h = subst₂ SoundModule (sym (node-count E s)) (sym (module-of E s m (listed-module h))) (module-sound m (listed-module h))
 
-  all-there : length s ≡ sheetEnd s
-  all-there = le-antisymm (at-most (λ c. none _ _ (left-over c))) (filled (watchedPlace s) (watchedCount s) (length s) (fits (a-count of-watched)) (λ k h. fits (a-watched k h)))
+    loop-node : {v : ℕ} → OnLoop S v → v < nodeCount S
+    loop-node l = subst (λ v. v < nodeCount S) (l .output) (sound-modules (l .driver) (chain-from (l .closed)) .output)
+
+    drivers : (a b : ℕ) → a < modulesCounted s → b < modulesCounted s → moduleAt E s a .output ≡ moduleAt E s b .output → a ≡ b
+    drivers a b i j e = omega (arith, at-most (λ l. none _ _ (already-driven b j a l e)), at-most (λ l. none _ _ (already-driven a i b l (sym e))))
+
+    output-at : (m : ℕ) → m < moduleCount S → outputOf S m ≡ moduleAt E s m .output
+    output-at m h = ap (λ r. r .output) (module-of E s m (listed-module h))
+
+    events-rise : (k : ℕ) → suc k < eventCount S → key (eventOf S k) < key (eventOf S (suc k))
+    events-rise k h =
+        subst₂ (λ a b. key a < key b) (sym (event-of E s k (omega (arith, listed-event h)))) (sym (event-of E s (suc k) (listed-event h)))
+        (lt-of-not-le (λ c. none _ _ (not-above-before (suc k) (listed-event h) (not-above k c))))
+
+    watched-rises : (k : ℕ) → suc k < watchedCount S → watchedNode S k < watchedNode S (suc k)
+    watched-rises k h =
+        subst₂ _<_ (sym (watched-node E s k (omega (arith, listed-watched h)))) (sym (watched-node E s (suc k) (listed-watched h)))
+        (lt-of-not-le (λ c. none _ _ (wrong-watched (suc k) (listed-watched h) (inr (not-above k c)))))
+
+    byte-in-range : (v : ℕ) → v < nodesCounted s → nodeAt s v ≤ inputByte
+    byte-in-range v h = at-most (λ c. none _ _ (byte-above v h c))
+
+    driven-byte : (v : ℕ) → v < nodesCounted s → Driven S v → nodeAt s v ≤ lastValue
+    driven-byte v h d = other-than-4 (byte-in-range v h) (λ c. none _ _ (driven-or-not v h (inl (d, c))))
+
+    input-at : (v : ℕ) → Input S v → nodeAt s v ≡ inputByte
+    input-at v i = le-antisymm (byte-in-range v (node (i .node))) (at-most (λ c. none _ _ (driven-or-not v (node (i .node)) (inr (i .undriven, c)))))
+
+    all-there : length s ≡ sheetEnd E s
+    all-there = le-antisymm (at-most (λ c. none _ _ (left-over c))) (filled (watchedPlace E s) (watchedCounted E s) (length s) (fits (a-count of-watched)) (λ k h. fits (a-watched k h)))
+
+    sheet-accepted : Accepted S
+    sheet-accepted =
+        record {
+          some-node = rw (node-count E s) (at-least of-nodes);
+          nodes = rw (node-count E s) (in-range of-nodes);
+          modules = rw (module-count E s) (in-range of-modules);
+          events = rw (event-count E s) (in-range of-drive);
+          watched = rw (watched-count E s) (in-range of-watched);
+          node-bytes = λ v h. rw (node-byte E s v (node h)) (byte-in-range v (node h));
+          sound-modules = sound-modules;
+          sound-events = λ k h. rw (event-of E s k (listed-event h)) (event-sound k (listed-event h));
+          watched-nodes = λ k h. subst₂ _<_ (sym (watched-node E s k (listed-watched h))) (sym (node-count E s)) (lt-of-not-le (λ c. none _ _ (wrong-watched k (listed-watched h) (inl c))));
+          one-driver = λ a b i j e. drivers a b (listed-module i) (listed-module j) (sym (output-at a i) ∙ e ∙ output-at b j);
+          initial-values = λ v h d. rw (node-byte E s v (node h)) (driven-byte v (node h) d);
+          inputs = λ v i. node-byte E s v (node (i .node)) ∙ input-at v i;
+          drive-rises = rises (λ k. key (eventOf S k)) (eventCount S) events-rise;
+          driven-at-start = λ v i. Dec·not-not (decided (drivenAtStart S v) (tells-at-start S v)) .0 (λ c. none _ _ (no-first-event v i c));
+          watched-rise = rises (watchedNode S) (watchedCount S) watched-rises;
+          no-loop = λ v l. none _ _ (on-loop v (loop-node l) (loop-test S (λ m h. sound-modules m h .output) v .1 l));
+        }
+
+    bytes-accepted : AcceptedIn E s
+    bytes-accepted = record { sheet = sheet-accepted; kinds = λ m h. rw (module-of E s m (listed-module h)) (kind-in-range m (listed-module h)); whole = all-there }
 
 -- The other way: every count and record ends by the sheet's end
-ends : {s : List ℕ} {p size : ℕ} → Part s p size → p + size ≤ sheetEnd s
+ends : {E : Edition} {s : List ℕ} {p size : ℕ} → Part E s p size → p + size ≤ sheetEnd E s
 ends (a-count of-nodes) = omega arith
 ends (a-count of-modules) = omega arith
 ends (a-count of-drive) = omega arith
 ends (a-count of-watched) = omega arith
 ends (a-node v h) = omega arith
-ends (a-module m h) = omega arith
-ends (an-event e h) = omega arith
+ends {E} (a-module m h) = omega (arith, mul-le-mul-left (E .size) h, mul-suc (E .size) m)
+ends (an-event k h) = omega arith
 ends (a-watched k h) = omega arith
 
-module _ (s : List ℕ) (a : Accepted s) where
-  ranged : {p least greatest : ℕ} → Count s p least greatest → (least ≤ wordAt s p) × (wordAt s p ≤ greatest)
-  ranged of-nodes = (a .some-node, a .nodes)
-  ranged of-modules = (zero-le, a .modules)
-  ranged of-drive = (zero-le, a .events)
-  ranged of-watched = (zero-le, a .watched)
+module _ (E : Edition) (s : List ℕ) (a : AcceptedIn E s) where
+  abbrev S′ : Sheet
+  S′ = sheetOf E s
 
-  wired : (m : ℕ) → m < moduleCount s → Miswired (nodeCount s) (moduleOf s m) → ⊥
-  wired m h (output-no-node c) = not-le-of-lt (a .sound-modules m h .output) c
-  wired m h (input-no-node v u c) = not-le-of-lt (a .sound-modules m h .used v u) c
-  wired m h (unused-not-0 v u c) = not-le-of-lt c (le-of-eq (a .sound-modules m h .unused v u))
+  a′ : Accepted S′
+  a′ = a .sheet
+
+  ranged : {p least greatest : ℕ} → Count E s p least greatest → (least ≤ wordAt s p) × (wordAt s p ≤ greatest)
+  ranged of-nodes = (rw (node-count E s) at (a′ .some-node), rw (node-count E s) at (a′ .nodes))
+  ranged of-modules = (zero-le, rw (module-count E s) at (a′ .modules))
+  ranged of-drive = (zero-le, rw (event-count E s) at (a′ .events))
+  ranged of-watched = (zero-le, rw (watched-count E s) at (a′ .watched))
+
+  sound : (m : ℕ) → m < modulesCounted s → SoundModule (nodesCounted s) (moduleAt E s m)
+  sound m h = subst₂ SoundModule (node-count E s) (module-of E s m h) (a′ .sound-modules m (rw (module-count E s) h))
+
+  sound-at : (k : ℕ) → k < eventsCounted E s → SoundEvent S′ (eventAt E s k)
+  sound-at k h = rw (event-of E s k h) at (a′ .sound-events k (rw (event-count E s) h))
+
+  wired : (m : ℕ) → m < modulesCounted s → Miswired (nodesCounted s) (moduleAt E s m) → ⊥
+  wired m h (output-no-node c) = not-le-of-lt (sound m h .output) c
+  wired m h (input-no-node v u c) = not-le-of-lt (sound m h .used v u) c
+  wired m h (unused-not-0 v u c) = not-le-of-lt c (le-of-eq (sound m h .unused v u))
 
   risen : {f : ℕ → ℕ} {n : ℕ} → ((i k : ℕ) → i < k → k < n → f i < f k) → (k : ℕ) → k < n → NotAbove f k → ⊥
   risen rise _ h (not-above k c) = not-le-of-lt (rise k (suc k) (le-refl (suc k)) h) c
 
-  started : (v : ℕ) → v < nodeCount s → (Driven s v × (nodeByte s v ≡ 4)) ⊎ ((Driven s v → ⊥) × nodeByte s v < 4) → ⊥
-  started v h (inl c) = omega (arith, a .initial-values v h (c .0), c .1)
-  started v h (inr c) = omega (arith, a .inputs v (record { node = h; undriven = c .0 }), c .1)
+  events-risen : (i k : ℕ) → i < k → k < eventsCounted E s → key (eventAt E s i) < key (eventAt E s k)
+  events-risen i k l h = subst₂ (λ a b. key a < key b) (event-of E s i (omega arith)) (event-of E s k h) (a′ .drive-rises i k l (rw (event-count E s) h))
 
-  refuted : (n p : ℕ) → Condition s n p → ⊥
+  watched-risen : (i k : ℕ) → i < k → k < watchedCounted E s → watchedAt E s i < watchedAt E s k
+  watched-risen i k l h = subst₂ _<_ (watched-node E s i (omega arith)) (watched-node E s k h) (a′ .watched-rise i k l (rw (watched-count E s) h))
+
+  started : (v : ℕ) → v < nodesCounted s → (Driven S′ v × (nodeAt s v ≡ inputByte)) ⊎ ((Driven S′ v → ⊥) × nodeAt s v < inputByte) → ⊥
+  started v h (inl c) = omega (arith, a′ .initial-values v (rw (node-count E s) h) (c .0), node-byte E s v h, c .1)
+  started v h (inr c) = omega (arith, a′ .inputs v (record { node = rw (node-count E s) h; undriven = c .0 }), node-byte E s v h, c .1)
+
+  twice : (m b : ℕ) → m < modulesCounted s → b < m → moduleAt E s b .output ≡ moduleAt E s m .output → ⊥
+  twice m b h l c = omega (arith, l, a′ .one-driver b m (rw (module-count E s) j) (rw (module-count E s) h) (output b j ∙ c ∙ sym (output m h)))
+    where
+      j : b < modulesCounted s
+      j = omega arith
+
+      output : (i : ℕ) → i < modulesCounted s → outputOf S′ i ≡ moduleAt E s i .output
+      output i k = ap (λ r. r .output) (module-of E s i k)
+
+  refuted : (n p : ℕ) → Condition E s n p → ⊥
   refuted n p (ends-inside part h) = not-le-of-lt h (le-trans (ends part) (le-of-eq (sym (a .whole))))
   refuted n p (outside-range c (inl h)) = not-le-of-lt h (ranged c .0)
   refuted n p (outside-range c (inr h)) = not-le-of-lt h (ranged c .1)
-  refuted n p (byte-above v h c) = not-le-of-lt c (a .node-bytes v h)
-  refuted n p (kind-above m h c) = not-le-of-lt c (a .sound-modules m h .kind)
-  refuted n p (parameter-not-allowed m h c) = not-le-of-lt c (a .sound-modules m h .parameter)
+  refuted n p (byte-above v h c) = not-le-of-lt c (rw (node-byte E s v h) at (a′ .node-bytes v (rw (node-count E s) h)))
+  refuted n p (kind-above m h c) = not-le-of-lt c (rw (module-of E s m h) at (a .kinds m (rw (module-count E s) h)))
+  refuted n p (parameter-not-allowed m h c) = not-le-of-lt c (sound m h .parameter)
   refuted n p (wrong-wiring m h c) = wired m h c
-  refuted n p (delay-above m h c) = not-le-of-lt c (a .sound-modules m h .delay)
-  refuted n p (already-driven m h b l c) = omega (arith, l, a .one-driver b m (omega arith) h c)
+  refuted n p (delay-above m h c) = not-le-of-lt c (sound m h .delay)
+  refuted n p (already-driven m h b l c) = twice m b h l c
   refuted n p (driven-or-not v h c) = started v h c
-  refuted n p (tick-above e h c) = not-le-of-lt c (a .sound-events e h .tick)
-  refuted n p (not-an-input e h c) = c (a .sound-events e h .node)
-  refuted n p (value-above e h c) = not-le-of-lt c (a .sound-events e h .value)
-  refuted n p (not-above-before e h c) = risen (a .drive-rises) e h c
-  refuted n p (no-first-event v i c) = c (a .driven-at-start v i)
-  refuted n p (wrong-watched k h (inl c)) = not-le-of-lt (a .watched-nodes k h) c
-  refuted n p (wrong-watched k h (inr c)) = risen (a .watched-rise) k h c
+  refuted n p (tick-above k h c) = not-le-of-lt c (sound-at k h .tick)
+  refuted n p (not-an-input k h c) = c (sound-at k h .node)
+  refuted n p (value-above k h c) = not-le-of-lt c (sound-at k h .value)
+  refuted n p (not-above-before k h c) = risen events-risen k h c
+  refuted n p (no-first-event v i c) = c (a′ .driven-at-start v i)
+  refuted n p (wrong-watched k h (inl c)) = not-le-of-lt (subst₂ _<_ (watched-node E s k h) (node-count E s) (a′ .watched-nodes k (rw (watched-count E s) h))) c
+  refuted n p (wrong-watched k h (inr c)) = risen watched-risen k h c
   refuted n p (left-over c) = not-le-of-lt c (le-of-eq (a .whole))
-  refuted n p (on-loop v h c) = a .no-loop v (loop-test s (λ m h. a .sound-modules m h .output) v .0 c)
+  refuted n p (on-loop v h c) = a′ .no-loop v (loop-test S′ (λ m h. a′ .sound-modules m h .output) v .0 c)
 
-pub accepted : (s : List ℕ) → checked s ≡ finished 0 → Accepted s
-accepted s e =
-    let none = finished-iff s .0 e in
-    record {
-      some-node = at-least s none of-nodes;
-      nodes = in-range s none of-nodes;
-      modules = in-range s none of-modules;
-      events = in-range s none of-drive;
-      watched = in-range s none of-watched;
-      node-bytes = byte-in-range s none;
-      sound-modules = module-sound s none;
-      sound-events = event-sound s none;
-      watched-nodes = λ k h. lt-of-not-le (λ c. none _ _ (wrong-watched k h (inl c)));
-      one-driver = drivers s none;
-      initial-values = driven-byte s none;
-      inputs = input-byte s none;
-      drive-rises = rises (λ e. key (eventOf s e)) (eventCount s) (events-rise s none);
-      driven-at-start = λ v i. Dec·not-not (decided (drivenAtStart s v) (tells-at-start s v)) .0 (λ c. none _ _ (no-first-event v i c));
-      watched-rise = rises (watchedNode s) (watchedCount s) (watched-rises s none);
-      no-loop = λ v l. none _ _ (on-loop v (loop-node s none l) (loop-test s (λ m h. module-sound s none m h .output) v .1 l));
-      whole = all-there s none;
-    }
+pub accepted : (E : Edition) → Known E → (s : List ℕ) → checked E s ≡ finished 0 → AcceptedIn E s
+accepted E known s e = bytes-accepted E s known (finished-iff E (some-size known) s .0 e)
 
-pub conversely : (s : List ℕ) → Accepted s → checked s ≡ finished 0
-conversely s a = finished-iff s .1 (refuted s a)
+pub conversely : (E : Edition) → Known E → (s : List ℕ) → AcceptedIn E s → checked E s ≡ finished 0
+conversely E known s a = finished-iff E (some-size known) s .1 (refuted E s a)

@@ -3,33 +3,38 @@ use lib.Dec.{ltb, leb, eqb}
 use mathlib.Core.Bool.{Bool, true, false, _&&_, _||_, not, false≢true}
 use mathlib.Core.List.{List, _∷_, List·Memᴰ, List·Memᴰ·head, List·Memᴰ·tail, List·Memᴰ·cases-cons}
 use mathlib.Core.Logic.{_⊎_, inl, inr}
-use mathlib.Core.Path.{_≡_, refl, sym, _∙_, subst}
+use mathlib.Core.Path.{_≡_, refl, sym, ap, _∙_, subst}
+use native.Mathlib.Omega.{arith}
 use Prim.Native.Nat.{ℕ, zero, suc, _<_, _≤_}
+use Rattle.sheet.specs.declared.Edition.{Edition}
 use Rattle.sheet.specs.declared.Module.{Module}
 use Rattle.sheet.specs.Enumerate.{anyOf}
-use Rattle.sheet.specs.Layout.{nodeCount, nodeByte, moduleOf, moduleCount, eventOf, eventCount, watchedNode}
-use Rattle.sheet.specs.Wiring.{usedInputs, unusedInputs, drivenBy, isDriven, isInput}
-use Rattle.sheet.specs.Refusal.{miswired, key, notAboveEvent, notAboveWatched, drivenAtStart}
+use Rattle.sheet.specs.Limits.{inputByte}
+use Rattle.sheet.specs.Sheet.{Sheet, nodeCount, moduleCount, moduleOf, outputOf, eventCount, eventOf}
+use Rattle.sheet.specs.Layout.{nodesCounted, nodeAt, modulesCounted, moduleAt, eventAt, watchedAt, sheetOf}
+use Rattle.sheet.specs.Wiring.{usedInputs, unusedInputs, drivenBy, isDriven, isInput, drivenAtStart}
+use Rattle.sheet.specs.Refusal.{miswired, key, notAboveEvent, notAboveWatched}
 use Rattle.format.specs.Accepted.{Driven, Input, DrivenAtStart}
 use Rattle.format.specs.Condition.{Miswired, output-no-node, input-no-node, unused-not-0, NotAbove, not-above}
 use Rattle.sheet.proofs.Tests.{Tells, tells-as, tells-lt, tells-le, tells-eq, tells-not, tells-and, tells-or, tells-below, tells-of}
+use Rattle.sheet.proofs.Parts.{module-of}
 
-pub tells-driven : (s : List ℕ) (v : ℕ) → Tells (isDriven s v) (Driven s v)
-tells-driven s v =
+pub tells-driven : (S : Sheet) (v : ℕ) → Tells (isDriven S v) (Driven S v)
+tells-driven S v =
     tells-as
-    (tells-below (moduleCount s) (λ m. eqb (moduleOf s m .output) v) (λ m. tells-eq (moduleOf s m .output) v))
+    (tells-below (moduleCount S) (λ m. eqb (outputOf S m) v) (λ m. tells-eq (outputOf S m) v))
     (λ h. record { driver = h .0; listed = h .1; output = h .2 }, λ d. (d .driver, d .listed, d .output))
 
-pub tells-input : (s : List ℕ) (v : ℕ) → Tells (isInput s v) (Input s v)
-tells-input s v =
+pub tells-input : (S : Sheet) (v : ℕ) → Tells (isInput S v) (Input S v)
+tells-input S v =
     tells-as
-    (tells-and (ltb v (nodeCount s)) (not (isDriven s v)) (tells-lt v (nodeCount s)) (tells-not (isDriven s v) (tells-driven s v)))
+    (tells-and (ltb v (nodeCount S)) (not (isDriven S v)) (tells-lt v (nodeCount S)) (tells-not (isDriven S v) (tells-driven S v)))
     (λ h. record { node = h .0; undriven = h .1 }, λ i. (i .node, i .undriven))
 
-pub tells-at-start : (s : List ℕ) (v : ℕ) → Tells (drivenAtStart s v) (DrivenAtStart s v)
-tells-at-start s v =
+pub tells-at-start : (S : Sheet) (v : ℕ) → Tells (drivenAtStart S v) (DrivenAtStart S v)
+tells-at-start S v =
     tells-as
-    (tells-below (eventCount s) (λ e. eqb (eventOf s e .tick) 0 && eqb (eventOf s e .node) v) (λ e. tells-and (eqb (eventOf s e .tick) 0) (eqb (eventOf s e .node) v) (tells-eq (eventOf s e .tick) 0) (tells-eq (eventOf s e .node) v)))
+    (tells-below (eventCount S) (λ e. eqb (eventOf S e .tick) 0 && eqb (eventOf S e .node) v) (λ e. tells-and (eqb (eventOf S e .tick) 0) (eqb (eventOf S e .node) v) (tells-eq (eventOf S e .tick) 0) (tells-eq (eventOf S e .node) v)))
     (λ h. record { event = h .0; listed = h .1; tick = h .2 .0; node = h .2 .1 }, λ d. (d .event, d .listed, (d .tick, d .node)))
 
 pub tells-miswired : (nodes : ℕ) (m : Module) → Tells (miswired nodes m) (Miswired nodes m)
@@ -65,28 +70,37 @@ tells-not-above f test none step (suc k) = rw (step k) (tells-as (tells-le (f (s
     there : NotAbove f (suc k) → f (suc k) ≤ f k
     there (not-above k h) = h
 
-pub tells-event : (s : List ℕ) (e : ℕ) → Tells (notAboveEvent s e) (NotAbove (λ e. key (eventOf s e)) e)
-unfolding notAboveEvent
-tells-event s = tells-not-above (λ e. key (eventOf s e)) (notAboveEvent s) refl (λ k. refl)
+module _ (E : Edition) (s : List ℕ) where
+  pub tells-event : (k : ℕ) → Tells (notAboveEvent E s k) (NotAbove (λ k. key (eventAt E s k)) k)
+  unfolding notAboveEvent
+  tells-event = tells-not-above (λ k. key (eventAt E s k)) (notAboveEvent E s) refl (λ k. refl)
 
-tells-watched : (s : List ℕ) (k : ℕ) → Tells (notAboveWatched s k) (NotAbove (watchedNode s) k)
-unfolding notAboveWatched
-tells-watched s = tells-not-above (watchedNode s) (notAboveWatched s) refl (λ k. refl)
+  tells-watched : (k : ℕ) → Tells (notAboveWatched E s k) (NotAbove (watchedAt E s) k)
+  unfolding notAboveWatched
+  tells-watched = tells-not-above (watchedAt E s) (notAboveWatched E s) refl (λ k. refl)
 
--- Tests made of others, in the order of the table.
-pub tells-start : (s : List ℕ) (v : ℕ) → Tells (isDriven s v && eqb (nodeByte s v) 4 || not (isDriven s v) && ltb (nodeByte s v) 4) ((Driven s v × (nodeByte s v ≡ 4)) ⊎ ((Driven s v → ⊥) × nodeByte s v < 4))
-tells-start s v =
-    tells-or
-    (isDriven s v && eqb (nodeByte s v) 4)
-    (not (isDriven s v) && ltb (nodeByte s v) 4)
-    (tells-and (isDriven s v) (eqb (nodeByte s v) 4) (tells-driven s v) (tells-eq (nodeByte s v) 4))
-    (tells-and (not (isDriven s v)) (ltb (nodeByte s v) 4) (tells-not (isDriven s v) (tells-driven s v)) (tells-lt (nodeByte s v) 4))
+  -- Tests made of others, in the order of the table.
+  pub tells-earlier : (m : ℕ) → m < modulesCounted s
+      → Tells (drivenBy (sheetOf E s) m (moduleAt E s m .output)) ((earlier : ℕ) × (earlier < m) × (moduleAt E s earlier .output ≡ moduleAt E s m .output))
+  tells-earlier m h =
+      tells-as (tells-below m (λ a. eqb (outputOf (sheetOf E s) a) (moduleAt E s m .output)) (λ a. tells-eq (outputOf (sheetOf E s) a) (moduleAt E s m .output)))
+      (λ t. (t .0, t .1, sym (same (t .0) (t .1)) ∙ t .2), λ t. (t .0, t .1, same (t .0) (t .1) ∙ t .2))
+    where
+      same : (a : ℕ) → a < m → outputOf (sheetOf E s) a ≡ moduleAt E s a .output
+      same a l = ap (λ r. r .output) (module-of E s a (omega arith))
 
-pub tells-first-event : (s : List ℕ) (v : ℕ) → Tells (isInput s v && not (drivenAtStart s v)) (Input s v × (DrivenAtStart s v → ⊥))
-tells-first-event s v = tells-and (isInput s v) (not (drivenAtStart s v)) (tells-input s v) (tells-not (drivenAtStart s v) (tells-at-start s v))
+  pub tells-start : (v : ℕ) → Tells (isDriven (sheetOf E s) v && eqb (nodeAt s v) inputByte || not (isDriven (sheetOf E s) v) && ltb (nodeAt s v) inputByte)
+      ((Driven (sheetOf E s) v × (nodeAt s v ≡ inputByte)) ⊎ ((Driven (sheetOf E s) v → ⊥) × nodeAt s v < inputByte))
+  tells-start v =
+      let S = sheetOf E s in
+      tells-or
+      (isDriven S v && eqb (nodeAt s v) inputByte)
+      (not (isDriven S v) && ltb (nodeAt s v) inputByte)
+      (tells-and (isDriven S v) (eqb (nodeAt s v) inputByte) (tells-driven S v) (tells-eq (nodeAt s v) inputByte))
+      (tells-and (not (isDriven S v)) (ltb (nodeAt s v) inputByte) (tells-not (isDriven S v) (tells-driven S v)) (tells-lt (nodeAt s v) inputByte))
 
-pub tells-earlier : (s : List ℕ) (m : ℕ) → Tells (drivenBy s m (moduleOf s m .output)) ((earlier : ℕ) × (earlier < m) × (moduleOf s earlier .output ≡ moduleOf s m .output))
-tells-earlier s m = tells-below m (λ a. eqb (moduleOf s a .output) (moduleOf s m .output)) (λ a. tells-eq (moduleOf s a .output) (moduleOf s m .output))
+  pub tells-wrong-watched : (k : ℕ) → Tells (leb (nodesCounted s) (watchedAt E s k) || notAboveWatched E s k) (nodesCounted s ≤ watchedAt E s k ⊎ NotAbove (watchedAt E s) k)
+  tells-wrong-watched k = tells-or (leb (nodesCounted s) (watchedAt E s k)) (notAboveWatched E s k) (tells-le (nodesCounted s) (watchedAt E s k)) (tells-watched k)
 
-pub tells-wrong-watched : (s : List ℕ) (k : ℕ) → Tells (leb (nodeCount s) (watchedNode s k) || notAboveWatched s k) (nodeCount s ≤ watchedNode s k ⊎ NotAbove (watchedNode s) k)
-tells-wrong-watched s k = tells-or (leb (nodeCount s) (watchedNode s k)) (notAboveWatched s k) (tells-le (nodeCount s) (watchedNode s k)) (tells-watched s k)
+pub tells-first-event : (S : Sheet) (v : ℕ) → Tells (isInput S v && not (drivenAtStart S v)) (Input S v × (DrivenAtStart S v → ⊥))
+tells-first-event S v = tells-and (isInput S v) (not (drivenAtStart S v)) (tells-input S v) (tells-not (drivenAtStart S v) (tells-at-start S v))

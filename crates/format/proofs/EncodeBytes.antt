@@ -1,10 +1,12 @@
 -- What an encoded sheet is made of is bytes: counts, delays and ticks by their remainders, the rest by what is asked of the sheet. Assumes nothing.
 use mathlib.Core.List.{List, [], _∷_, _++_, List·Memᴰ, List·Memᴰ·head, List·Memᴰ·tail}
 use mathlib.Core.Path.{refl}
-use Prim.Native.Nat.{ℕ, zero, suc, _<_, _/_, _%_}
+use Prim.Native.Nat.{ℕ, zero, suc, _-_, _<_, _/_, _%_}
 use native.Mathlib.Nat.{le-of-suc-le-suc, not-suc-le-zero}
 use native.Mathlib.Omega.{arith}
-use Rattle.format.specs.Sheet.{Sheet}
+use lib.ListN.{take}
+use Rattle.sheet.specs.declared.Edition.{Edition}
+use Rattle.sheet.specs.Sheet.{Sheet}
 use Rattle.format.specs.Encode.{wordBytes, longBytes, moduleBytes, eventBytes, allBytes, encode, Bytes, OneByteEach}
 
 infixr 30 _then_
@@ -41,14 +43,19 @@ word n = low n then low (n / 256) then none
 long : (n : ℕ) → Small (longBytes n)
 long n = low n then low (n / 256) then low (n / 65536) then low (n / 16777216) then none
 
-pub encode-bytes : (sheet : Sheet) → OneByteEach sheet → Bytes (encode sheet)
+taken : {l : List ℕ} (n : ℕ) → Small l → Small (take n l)
+taken zero k = none
+taken (suc n) none = none
+taken (suc n) (h then hs) = h then taken n hs
+
+pub encode-bytes : (E : Edition) (sheet : Sheet) → OneByteEach sheet → Bytes (encode E sheet)
 unfolding encode
-encode-bytes sheet h =
+encode-bytes E sheet h =
     small-bytes
     (word _
     joined members (sheet .nodes) (h .nodes)
     joined word _
-    joined records moduleBytes (sheet .modules) (λ m k. let f = h .modules m k in f .0 then f .1 then f .2 then f .3 then f .4 then word _)
+    joined records (moduleBytes E) (sheet .modules) (λ m k. let f = h .modules m k in taken (E .size - 2) (f .0 then f .1 then f .2 then f .3 then f .4 then none) joined word (m .delay))
     joined word _
     joined records eventBytes (sheet .drive) (λ e k. let f = h .drive e k in long _ joined f .0 then f .1 then none)
     joined word _

@@ -1,21 +1,24 @@
 -- Modules and events: read from what they are written as, and written as what they are read from. Assumes nothing.
 use mathlib.Core.List.{List, [], _∷_, _++_}
-use mathlib.Core.Path.{_≡_, ap}
+use mathlib.Core.Path.{_≡_, refl, ap}
 use Prim.Native.Nat.{ℕ, _+_, _<_, _^_}
 use native.Mathlib.Nat.{add-zero, add-assoc}
+use lib.ListN.{length}
 use Rattle.sheet.specs.declared.Module.{Module}
 use Rattle.sheet.specs.declared.Event.{Event}
 use Rattle.sheet.specs.Enumerate.{each}
 use Rattle.sheet.specs.Bytes.{byteAt}
-use Rattle.sheet.specs.Layout.{moduleSize, eventSize, moduleRecord, eventRecord}
+use Rattle.sheet.specs.declared.Edition.{Edition}
+use Rattle.sheet.specs.Layout.{firstEdition, eventSize, moduleRecord, eventRecord}
+use Rattle.format.specs.Accepted.{Known, the-first}
 use Rattle.format.specs.Encode.{wordBytes, longBytes, moduleBytes, eventBytes, Bytes}
 use Rattle.format.proofs.EncodeSpan.{span, stand-halves}
 use Rattle.format.proofs.EncodeNumber.{word-read, long-read, word-written, long-written}
 
 module _ (s : List ℕ) (p : ℕ) where
-  pub module-read : (m : Module) → m .delay < 65536 → span s p moduleSize ≡ moduleBytes m → moduleRecord s p ≡ m
+  module-read-first : (m : Module) → m .delay < 65536 → span s p (firstEdition .size) ≡ moduleBytes firstEdition m → moduleRecord s p ≡ m
   unfolding each
-  module-read m b h =
+  module-read-first m b h =
       λ i.
       record {
         kind = (rw add-zero at (ap (λ l. byteAt l 0) h)) i;
@@ -37,10 +40,30 @@ module _ (s : List ℕ) (p : ℕ) where
       }
 
   module _ (bytes : Bytes s) where
-    pub module-written : moduleBytes (moduleRecord s p) ≡ span s p moduleSize
+    module-written-first : moduleBytes firstEdition (moduleRecord s p) ≡ span s p (firstEdition .size)
     unfolding each
-    module-written = rw (word-written s (p + 5) bytes) (simp (add-zero, add-assoc))
+    module-written-first = rw (word-written s (p + 5) bytes) (simp (add-zero, add-assoc))
 
     pub event-written : eventBytes (eventRecord s p) ≡ span s p eventSize
     unfolding each
     event-written = ap (λ l. l ++ byteAt s (p + 4) ∷ byteAt s (p + 5) ∷ []) (long-written s p bytes)
+
+-- in each edition
+module _ {E : Edition} (known : Known E) where
+  pub module-length : (m : Module) → length (moduleBytes E m) ≡ E .size
+  module-length m = at known
+    where
+      at : {E : Edition} → Known E → length (moduleBytes E m) ≡ E .size
+      at the-first = refl
+
+  pub module-read : (s : List ℕ) (p : ℕ) (m : Module) → m .delay < 65536 → span s p (E .size) ≡ moduleBytes E m → moduleRecord s p ≡ m
+  module-read s p m b = at known
+    where
+      at : {E : Edition} → Known E → span s p (E .size) ≡ moduleBytes E m → moduleRecord s p ≡ m
+      at the-first = module-read-first s p m b
+
+  pub module-written : (s : List ℕ) (p : ℕ) → Bytes s → moduleBytes E (moduleRecord s p) ≡ span s p (E .size)
+  module-written s p bytes = at known
+    where
+      at : {E : Edition} → Known E → moduleBytes E (moduleRecord s p) ≡ span s p (E .size)
+      at the-first = module-written-first s p bytes

@@ -5,9 +5,10 @@ use mathlib.Core.Path.{_≡_, _∙_}
 use Prim.Native.Nat.{ℕ, _+_, _<_}
 use native.Mathlib.Nat.{zero-add}
 use lib.ListN.{length, length-append}
+use Rattle.sheet.specs.declared.Edition.{Edition}
 use Rattle.sheet.specs.Bytes.{wordAt}
 use Rattle.sheet.specs.Layout.{countSize}
-use Rattle.format.specs.Sheet.{Sheet}
+use Rattle.sheet.specs.Sheet.{Sheet}
 use Rattle.format.specs.Encode.{wordBytes, moduleBytes, eventBytes, allBytes, Bytes}
 use Rattle.format.proofs.EncodeSpan.{span, Stand, span-front, stand-halves}
 use Rattle.format.proofs.EncodeNumber.{word-read, word-written}
@@ -16,11 +17,11 @@ use Rattle.format.proofs.EncodeNumber.{word-read, word-written}
 abbrev pub nodesBytes : Sheet → List ℕ
 nodesBytes sheet = wordBytes (length (sheet .nodes)) ++ sheet .nodes
 
-abbrev pub modulesBytes : Sheet → List ℕ
-modulesBytes sheet = nodesBytes sheet ++ wordBytes (length (sheet .modules)) ++ allBytes moduleBytes (sheet .modules)
+abbrev pub modulesBytes : Edition → Sheet → List ℕ
+modulesBytes E sheet = nodesBytes sheet ++ wordBytes (length (sheet .modules)) ++ allBytes (moduleBytes E) (sheet .modules)
 
-abbrev pub driveBytes : Sheet → List ℕ
-driveBytes sheet = modulesBytes sheet ++ wordBytes (length (sheet .drive)) ++ allBytes eventBytes (sheet .drive)
+abbrev pub driveBytes : Edition → Sheet → List ℕ
+driveBytes E sheet = modulesBytes E sheet ++ wordBytes (length (sheet .drive)) ++ allBytes eventBytes (sheet .drive)
 
 pub section-written : (s : List ℕ) → Bytes s → (before body : List ℕ) (count place n : ℕ) → before ≡ span s 0 place → count ≡ wordAt s place → body ≡ span s (place + countSize) n
     → before ++ wordBytes count ++ body ≡ span s 0 (place + countSize + n)

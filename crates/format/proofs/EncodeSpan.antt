@@ -6,11 +6,11 @@ use native.Mathlib.Nat.{zero-add, add-zero, add-suc, add-assoc, mul-le-mul-left,
 use native.Mathlib.Omega.{arith}
 use lib.ListN.{length, getD, take, drop, length-append}
 use lib.Seq.{take-at, drop-at}
-use Rattle.sheet.specs.Enumerate.{each}
+use Rattle.sheet.specs.Enumerate.{each, listed}
 use Rattle.sheet.specs.Bytes.{byteAt}
-use Rattle.format.specs.Sheet.{listed}
 use Rattle.format.specs.Encode.{allBytes}
-use Rattle.format.proofs.Listed.{length-listed, getD-listed, listed-is, length-allBytes, getD-allBytes, allBytes-append}
+use Rattle.sheet.proofs.Listed.{length-listed, getD-listed, listed-is}
+use Rattle.format.proofs.AllBytes.{length-allBytes, getD-allBytes, allBytes-append}
 
 abbrev pub span : List ℕ → ℕ → ℕ → List ℕ
 span s p n = listed n (λ j. byteAt s (p + j))

@@ -5,6 +5,7 @@ use mathlib.Core.Logic.{_↔_}
 use mathlib.Core.Path.{_≡_, refl, sym, _∙_, ap, subst}
 use Prim.Native.Nat.{ℕ}
 use Rattle.level.specs.Choice.{if_then_else_}
+use Rattle.sheet.specs.declared.Edition.{Edition}
 use Rattle.sheet.specs.Outcome.{Outcome, finished, refused}
 use Rattle.sheet.specs.Refusal.{Row, _at_when_, rows, first, checked}
 use Rattle.format.specs.FirstMet.{FirstMet}
@@ -50,6 +51,6 @@ unfolding first
 first-refused xs n p f = ap first (f .there) ∙ passed-append (f .before) ((n at p when true) ∷ f .after) (first-clear (f .before) .1 (f .none-before))
 
 -- the table of a sheet
-pub refused-iff : (s : List ℕ) (n p : ℕ) → (checked s ≡ refused n p 0) ↔ FirstMet (rows s) n p
+pub refused-iff : (E : Edition) (s : List ℕ) (n p : ℕ) → (checked E s ≡ refused n p 0) ↔ FirstMet (rows E s) n p
 unfolding checked
-refused-iff s n p = (first-met (rows s) n p, first-refused (rows s) n p)
+refused-iff E s n p = (first-met (rows E s) n p, first-refused (rows E s) n p)

@@ -1,4 +1,8 @@
 -- The laws of the format: which sheets are accepted, and how they are written.
+pub mod Over
+pub mod LeastMet
+pub mod Chains
+pub mod LeastOnLoop
 pub mod FirstMet
 pub mod Condition
 pub mod Sections
@@ -8,7 +12,7 @@ pub mod Checked
 pub mod Accepted
 pub mod Loop
 pub mod Order
-pub mod Listed
+pub mod AllBytes
 pub mod EncodeSpan
 pub mod EncodeNumber
 pub mod EncodeRecord

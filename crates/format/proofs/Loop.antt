@@ -4,18 +4,20 @@ use lib.Dec.{lit<}
 use mathlib.Core.Bool.{true}
 use mathlib.Core.List.{List, [], _++_, List·Memᴰ·head, List·Memᴰ·tail as later}
 use mathlib.Core.Logic.{_↔_, ⊎-elim}
-use mathlib.Core.Path.{_≡_, refl, sym, _∙_}
+use mathlib.Core.Path.{_≡_, refl, sym, _∙_, subst₂}
 use native.Mathlib.Nat.{lt-of-not-le}
 use native.Mathlib.Omega.{arith}
 use Prim.Native.Nat.{ℕ, _<_}
-use Rattle.sheet.specs.Enumerate.{each}
-use Rattle.sheet.specs.Layout.{nodeCount, modulesPlace, moduleCount, modulePlace, moduleOf, drivePlace, eventCount, watchedPlace, watchedCount}
+use Rattle.sheet.specs.declared.Edition.{Edition}
+use Rattle.sheet.specs.Limits.{leastNodes, mostNodes, mostModules, mostEvents, mostWatched}
+use Rattle.sheet.specs.Layout.{nodesCounted, modulesPlace, modulesCounted, modulePlace, moduleAt, drivePlace, eventsCounted, watchedPlace, watchedCounted, sheetOf}
 use Rattle.sheet.specs.Outcome.{finished, refused}
 use Rattle.sheet.specs.Loop.{LeastOnLoop, Outputs}
-use Rattle.sheet.specs.Refusal.{Row, _at_when_, miswired, countRows, nodeRows, moduleRows, startRows, eventRows, firstEventRows, watchedRows, loopRows, bytesRows, rows, first, checked}
+use Rattle.sheet.specs.Refusal.{Row, _at_when_, miswired, countRows, nodeRows, moduleRows, startRows, eventRows, firstEventRows, watchedRows, loopsSection, bytesRows, rows, first, checked}
 use Rattle.sheet.proofs.Tests.{fails}
+use Rattle.sheet.proofs.Parts.{node-count, module-count, module-of}
 use Rattle.sheet.proofs.Rows.{All, all-nil, _and_, _then_, all-each, first-clear, first-answers, passed-append, refused-append}
-use Rattle.order.proofs.Loop.{least-on-loop}
+use Rattle.format.proofs.LeastOnLoop.{least-on-loop}
 use Rattle.format.specs.Condition.{output-no-node}
 use Rattle.format.proofs.FirstMet.{first-met, met-stands}
 use Rattle.format.proofs.Sections.{in-module}
@@ -27,38 +29,40 @@ Early r = r .number < 18
 end : All Early []
 end = all-nil Early
 
-module _ (s : List ℕ) where
+module _ (E : Edition) (s : List ℕ) where
   count-early : (p least greatest : ℕ) → All Early (countRows s p least greatest)
   count-early p least greatest = lit< tt and lit< tt and end
 
-  early : All Early (bytesRows s)
+  early : All Early (bytesRows E s)
   unfolding bytesRows
   early =
-      (count-early 0 1 256 then all-each (nodeCount s) (nodeRows s) (λ v h. lit< tt and lit< tt and end))
-      then (count-early (modulesPlace s) 0 256 then all-each (moduleCount s) (moduleRows s) (λ m h. lit< tt and lit< tt and lit< tt and lit< tt and lit< tt and lit< tt and end))
-      then all-each (nodeCount s) (startRows s) (λ v h. lit< tt and end)
-      then (count-early (drivePlace s) 0 1024 then all-each (eventCount s) (eventRows s) (λ e h. lit< tt and lit< tt and lit< tt and lit< tt and lit< tt and end))
-      then all-each (nodeCount s) (firstEventRows s) (λ v h. lit< tt and end)
-      then (count-early (watchedPlace s) 0 256 then all-each (watchedCount s) (watchedRows s) (λ k h. lit< tt and lit< tt and end))
+      (count-early 0 leastNodes mostNodes then all-each (nodesCounted s) (nodeRows s) (λ v h. lit< tt and lit< tt and end))
+      then (count-early (modulesPlace s) 0 mostModules then all-each (modulesCounted s) (moduleRows E s) (λ m h. lit< tt and lit< tt and lit< tt and lit< tt and lit< tt and lit< tt and end))
+      then all-each (nodesCounted s) (startRows E s) (λ v h. lit< tt and end)
+      then (count-early (drivePlace E s) 0 mostEvents then all-each (eventsCounted E s) (eventRows E s) (λ e h. lit< tt and lit< tt and lit< tt and lit< tt and lit< tt and end))
+      then all-each (nodesCounted s) (firstEventRows E s) (λ v h. lit< tt and end)
+      then (count-early (watchedPlace E s) 0 mostWatched then all-each (watchedCounted E s) (watchedRows E s) (λ k h. lit< tt and lit< tt and end))
       then (lit< tt and end)
 
-  outputs : first (bytesRows s) ≡ finished 0 → Outputs s
-  outputs passed m h =
-      let wired = miswired (nodeCount s) (moduleOf s m) in
-      let row = first-clear (bytesRows s) .0 passed (7 at modulePlace s m when wired) (in-module s m h (later (later (later (List·Memᴰ·head refl))))) in
-      lt-of-not-le (λ c. fails wired (tells-miswired (nodeCount s) (moduleOf s m)) .0 row (output-no-node c))
+  outputs : first (bytesRows E s) ≡ finished 0 → Outputs (sheetOf E s)
+  outputs passed m l =
+      let h = rw (module-count E s) at l in
+      let wired = miswired (nodesCounted s) (moduleAt E s m) in
+      let row = first-clear (bytesRows E s) .0 passed (7 at modulePlace E s m when wired) (in-module E s m h (later (later (later (List·Memᴰ·head refl))))) in
+      subst₂ (λ r n. r .output < n) (sym (module-of E s m h)) (sym (node-count E s))
+      (lt-of-not-le (λ c. fails wired (tells-miswired (nodesCounted s) (moduleAt E s m)) .0 row (output-no-node c)))
 
-  pub loop-refused : (v : ℕ) → (checked s ≡ refused 18 v 0) ↔ ((first (bytesRows s) ≡ finished 0) × LeastOnLoop s v)
+  pub loop-refused : (v : ℕ) → (checked E s ≡ refused 18 v 0) ↔ ((first (bytesRows E s) ≡ finished 0) × LeastOnLoop (sheetOf E s) v)
   unfolding checked rows
-  loop-refused v = (λ e. ⊎-elim (after e) (λ h. absurd (before (h .0) (h .1) e (h .2))) (first-answers (bytesRows s)), λ h. passed-append (bytesRows s) loops (h .0) ∙ least-on-loop s (outputs (h .0)) v .1 (h .1))
+  loop-refused v = (λ e. ⊎-elim (after e) (λ h. absurd (before (h .0) (h .1) e (h .2))) (first-answers (bytesRows E s)), λ h. passed-append (bytesRows E s) loops (h .0) ∙ least-on-loop (sheetOf E s) (outputs (h .0)) v .1 (h .1))
     where
       loops : List Row
-      loops = each (nodeCount s) (loopRows s)
+      loops = loopsSection (sheetOf E s)
 
-      after : first (bytesRows s ++ loops) ≡ refused 18 v 0 → first (bytesRows s) ≡ finished 0 → (first (bytesRows s) ≡ finished 0) × LeastOnLoop s v
-      after e c = (c, least-on-loop s (outputs c) v .0 (sym (passed-append (bytesRows s) loops c) ∙ e))
+      after : first (bytesRows E s ++ loops) ≡ refused 18 v 0 → first (bytesRows E s) ≡ finished 0 → (first (bytesRows E s) ≡ finished 0) × LeastOnLoop (sheetOf E s) v
+      after e c = (c, least-on-loop (sheetOf E s) (outputs c) v .0 (sym (passed-append (bytesRows E s) loops c) ∙ e))
 
-      before : (n p : ℕ) → first (bytesRows s ++ loops) ≡ refused 18 v 0 → first (bytesRows s) ≡ refused n p 0 → ⊥
+      before : (n p : ℕ) → first (bytesRows E s ++ loops) ≡ refused 18 v 0 → first (bytesRows E s) ≡ refused n p 0 → ⊥
       before n p e r =
-          let number : n ≡ 18 = cc (sym (refused-append (bytesRows s) loops r) ∙ e) in
-          omega (arith, early (n at p when true) (met-stands (bytesRows s) n p (first-met (bytesRows s) n p r)))
+          let number : n ≡ 18 = cc (sym (refused-append (bytesRows E s) loops r) ∙ e) in
+          omega (arith, early (n at p when true) (met-stands (bytesRows E s) n p (first-met (bytesRows E s) n p r)))

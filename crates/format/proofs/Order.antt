@@ -1,11 +1,10 @@
 -- The key by which a drive rises is the order by tick and then by node, nodes being below 256. Assumes nothing.
-use mathlib.Core.List.{List}
 use mathlib.Core.Logic.{_↔_, inl, inr}
 use native.Mathlib.Decide.{decLt}
 use native.Mathlib.Omega.{arith}
 use Prim.Native.Nat.{ℕ, _<_}
 use Rattle.sheet.specs.declared.Event.{Event}
-use Rattle.sheet.specs.Layout.{eventCount, eventOf}
+use Rattle.sheet.specs.Sheet.{Sheet, eventCount, eventOf}
 use Rattle.sheet.specs.Refusal.{key}
 use Rattle.format.specs.Accepted.{Before, Accepted}
 
@@ -21,8 +20,8 @@ key-order a b h l = (λ k. by-tick k (decLt (a .tick) (b .tick)), by-key)
     by-key (inr t) = omega arith
 
 -- the drive of an accepted sheet
-pub drive-order : (s : List ℕ) → Accepted s → (a b : ℕ) → a < b → b < eventCount s → Before (eventOf s a) (eventOf s b)
-drive-order s acc a b h l = key-order (eventOf s a) (eventOf s b) (small a (omega arith)) (small b l) .0 (acc .drive-rises a b h l)
+pub drive-order : (S : Sheet) → Accepted S → (a b : ℕ) → a < b → b < eventCount S → Before (eventOf S a) (eventOf S b)
+drive-order S acc a b h l = key-order (eventOf S a) (eventOf S b) (small a (omega arith)) (small b l) .0 (acc .drive-rises a b h l)
   where
-    small : (e : ℕ) → e < eventCount s → eventOf s e .node < 256
+    small : (e : ℕ) → e < eventCount S → eventOf S e .node < 256
     small e i = omega (arith, acc .sound-events e i .node .node, acc .nodes)

@@ -2,80 +2,83 @@
 use mathlib.Core.List.{List, _++_, List·Memᴰ, Memᴰ·append-left, Memᴰ·append-right}
 use Prim.Native.Nat.{ℕ, _<_}
 use Rattle.sheet.specs.Enumerate.{each}
-use Rattle.sheet.specs.Layout.{nodeCount, modulesPlace, moduleCount, drivePlace, eventCount, watchedPlace, watchedCount}
-use Rattle.sheet.specs.Refusal.{Row, countRows, nodeRows, moduleRows, startRows, eventRows, firstEventRows, watchedRows, leftOverRows, loopRows, nodesSection, modulesSection, driveSection, watchedSection, bytesRows, rows}
+use Rattle.sheet.specs.declared.Edition.{Edition}
+use Rattle.sheet.specs.Limits.{leastNodes, mostNodes, mostModules, mostEvents, mostWatched}
+use Rattle.sheet.specs.Sheet.{nodeCount}
+use Rattle.sheet.specs.Layout.{nodesCounted, modulesPlace, modulesCounted, drivePlace, eventsCounted, watchedPlace, watchedCounted, sheetOf}
+use Rattle.sheet.specs.Refusal.{Row, countRows, nodeRows, moduleRows, startRows, eventRows, firstEventRows, watchedRows, leftOverRows, loopRows, loopsSection, nodesSection, modulesSection, driveSection, watchedSection, bytesRows, rows}
 use Rattle.format.specs.Condition.{Count, of-nodes, of-modules, of-drive, of-watched}
 use Rattle.sheet.proofs.Each.{each-mem}
 
 -- the rows of all nodes, and the table up to those after the modules and after the drive
-abbrev starts : List ℕ → List Row
-starts s = each (nodeCount s) (startRows s)
+abbrev starts : Edition → List ℕ → List Row
+starts E s = each (nodesCounted s) (startRows E s)
 
-abbrev first-events : List ℕ → List Row
-first-events s = each (nodeCount s) (firstEventRows s)
+abbrev first-events : Edition → List ℕ → List Row
+first-events E s = each (nodesCounted s) (firstEventRows E s)
 
-abbrev to-starts : List ℕ → List Row
-to-starts s = nodesSection s ++ modulesSection s ++ starts s
+abbrev to-starts : Edition → List ℕ → List Row
+to-starts E s = nodesSection s ++ modulesSection E s ++ starts E s
 
-abbrev to-first-events : List ℕ → List Row
-to-first-events s = to-starts s ++ driveSection s ++ first-events s
+abbrev to-first-events : Edition → List ℕ → List Row
+to-first-events E s = to-starts E s ++ driveSection E s ++ first-events E s
 
-module _ (s : List ℕ) {r : Row} where
-  within-first-events : List·Memᴰ r (to-first-events s) → List·Memᴰ r (bytesRows s)
+module _ (E : Edition) (s : List ℕ) {r : Row} where
+  within-first-events : List·Memᴰ r (to-first-events E s) → List·Memᴰ r (bytesRows E s)
   unfolding bytesRows
-  within-first-events m = Memᴰ·append-left (leftOverRows s) (Memᴰ·append-left (watchedSection s) m)
+  within-first-events m = Memᴰ·append-left (leftOverRows E s) (Memᴰ·append-left (watchedSection E s) m)
 
-  within-starts : List·Memᴰ r (to-starts s) → List·Memᴰ r (bytesRows s)
-  within-starts m = within-first-events (Memᴰ·append-left (first-events s) (Memᴰ·append-left (driveSection s) m))
+  within-starts : List·Memᴰ r (to-starts E s) → List·Memᴰ r (bytesRows E s)
+  within-starts m = within-first-events (Memᴰ·append-left (first-events E s) (Memᴰ·append-left (driveSection E s) m))
 
-  in-nodes : List·Memᴰ r (nodesSection s) → List·Memᴰ r (bytesRows s)
-  in-nodes m = within-starts (Memᴰ·append-left (starts s) (Memᴰ·append-left (modulesSection s) m))
+  in-nodes : List·Memᴰ r (nodesSection s) → List·Memᴰ r (bytesRows E s)
+  in-nodes m = within-starts (Memᴰ·append-left (starts E s) (Memᴰ·append-left (modulesSection E s) m))
 
-  in-modules : List·Memᴰ r (modulesSection s) → List·Memᴰ r (bytesRows s)
-  in-modules m = within-starts (Memᴰ·append-left (starts s) (Memᴰ·append-right (nodesSection s) m))
+  in-modules : List·Memᴰ r (modulesSection E s) → List·Memᴰ r (bytesRows E s)
+  in-modules m = within-starts (Memᴰ·append-left (starts E s) (Memᴰ·append-right (nodesSection s) m))
 
-  in-drive : List·Memᴰ r (driveSection s) → List·Memᴰ r (bytesRows s)
-  in-drive m = within-first-events (Memᴰ·append-left (first-events s) (Memᴰ·append-right (to-starts s) m))
+  in-drive : List·Memᴰ r (driveSection E s) → List·Memᴰ r (bytesRows E s)
+  in-drive m = within-first-events (Memᴰ·append-left (first-events E s) (Memᴰ·append-right (to-starts E s) m))
 
-  in-watched : List·Memᴰ r (watchedSection s) → List·Memᴰ r (bytesRows s)
+  in-watched : List·Memᴰ r (watchedSection E s) → List·Memᴰ r (bytesRows E s)
   unfolding bytesRows
-  in-watched m = Memᴰ·append-left (leftOverRows s) (Memᴰ·append-right (to-first-events s) m)
+  in-watched m = Memᴰ·append-left (leftOverRows E s) (Memᴰ·append-right (to-first-events E s) m)
 
   -- each count and each record
-  pub in-count : {p least greatest : ℕ} → Count s p least greatest → List·Memᴰ r (countRows s p least greatest) → List·Memᴰ r (bytesRows s)
-  in-count of-nodes m = in-nodes (Memᴰ·append-left (each (nodeCount s) (nodeRows s)) m)
-  in-count of-modules m = in-modules (Memᴰ·append-left (each (moduleCount s) (moduleRows s)) m)
-  in-count of-drive m = in-drive (Memᴰ·append-left (each (eventCount s) (eventRows s)) m)
-  in-count of-watched m = in-watched (Memᴰ·append-left (each (watchedCount s) (watchedRows s)) m)
+  pub in-count : {p least greatest : ℕ} → Count E s p least greatest → List·Memᴰ r (countRows s p least greatest) → List·Memᴰ r (bytesRows E s)
+  in-count of-nodes m = in-nodes (Memᴰ·append-left (each (nodesCounted s) (nodeRows s)) m)
+  in-count of-modules m = in-modules (Memᴰ·append-left (each (modulesCounted s) (moduleRows E s)) m)
+  in-count of-drive m = in-drive (Memᴰ·append-left (each (eventsCounted E s) (eventRows E s)) m)
+  in-count of-watched m = in-watched (Memᴰ·append-left (each (watchedCounted E s) (watchedRows E s)) m)
 
-  pub in-node : (v : ℕ) → v < nodeCount s → List·Memᴰ r (nodeRows s v) → List·Memᴰ r (bytesRows s)
-  in-node v h m = in-nodes (Memᴰ·append-right (countRows s 0 1 256) (each-mem (nodeCount s) (nodeRows s) .1 (v, h, m)))
+  pub in-node : (v : ℕ) → v < nodesCounted s → List·Memᴰ r (nodeRows s v) → List·Memᴰ r (bytesRows E s)
+  in-node v h m = in-nodes (Memᴰ·append-right (countRows s 0 leastNodes mostNodes) (each-mem (nodesCounted s) (nodeRows s) .1 (v, h, m)))
 
-  pub in-module : (m : ℕ) → m < moduleCount s → List·Memᴰ r (moduleRows s m) → List·Memᴰ r (bytesRows s)
-  in-module i h m = in-modules (Memᴰ·append-right (countRows s (modulesPlace s) 0 256) (each-mem (moduleCount s) (moduleRows s) .1 (i, h, m)))
+  pub in-module : (m : ℕ) → m < modulesCounted s → List·Memᴰ r (moduleRows E s m) → List·Memᴰ r (bytesRows E s)
+  in-module i h m = in-modules (Memᴰ·append-right (countRows s (modulesPlace s) 0 mostModules) (each-mem (modulesCounted s) (moduleRows E s) .1 (i, h, m)))
 
-  pub in-event : (e : ℕ) → e < eventCount s → List·Memᴰ r (eventRows s e) → List·Memᴰ r (bytesRows s)
-  in-event e h m = in-drive (Memᴰ·append-right (countRows s (drivePlace s) 0 1024) (each-mem (eventCount s) (eventRows s) .1 (e, h, m)))
+  pub in-event : (k : ℕ) → k < eventsCounted E s → List·Memᴰ r (eventRows E s k) → List·Memᴰ r (bytesRows E s)
+  in-event e h m = in-drive (Memᴰ·append-right (countRows s (drivePlace E s) 0 mostEvents) (each-mem (eventsCounted E s) (eventRows E s) .1 (e, h, m)))
 
-  pub in-watched-node : (k : ℕ) → k < watchedCount s → List·Memᴰ r (watchedRows s k) → List·Memᴰ r (bytesRows s)
-  in-watched-node k h m = in-watched (Memᴰ·append-right (countRows s (watchedPlace s) 0 256) (each-mem (watchedCount s) (watchedRows s) .1 (k, h, m)))
+  pub in-watched-node : (k : ℕ) → k < watchedCounted E s → List·Memᴰ r (watchedRows E s k) → List·Memᴰ r (bytesRows E s)
+  in-watched-node k h m = in-watched (Memᴰ·append-right (countRows s (watchedPlace E s) 0 mostWatched) (each-mem (watchedCounted E s) (watchedRows E s) .1 (k, h, m)))
 
   -- what stands after a section
-  pub in-start : (v : ℕ) → v < nodeCount s → List·Memᴰ r (startRows s v) → List·Memᴰ r (bytesRows s)
-  in-start v h m = within-starts (Memᴰ·append-right (nodesSection s ++ modulesSection s) (each-mem (nodeCount s) (startRows s) .1 (v, h, m)))
+  pub in-start : (v : ℕ) → v < nodesCounted s → List·Memᴰ r (startRows E s v) → List·Memᴰ r (bytesRows E s)
+  in-start v h m = within-starts (Memᴰ·append-right (nodesSection s ++ modulesSection E s) (each-mem (nodesCounted s) (startRows E s) .1 (v, h, m)))
 
-  pub in-first-event : (v : ℕ) → v < nodeCount s → List·Memᴰ r (firstEventRows s v) → List·Memᴰ r (bytesRows s)
-  in-first-event v h m = within-first-events (Memᴰ·append-right (to-starts s ++ driveSection s) (each-mem (nodeCount s) (firstEventRows s) .1 (v, h, m)))
+  pub in-first-event : (v : ℕ) → v < nodesCounted s → List·Memᴰ r (firstEventRows E s v) → List·Memᴰ r (bytesRows E s)
+  in-first-event v h m = within-first-events (Memᴰ·append-right (to-starts E s ++ driveSection E s) (each-mem (nodesCounted s) (firstEventRows E s) .1 (v, h, m)))
 
-  pub in-left-over : List·Memᴰ r (leftOverRows s) → List·Memᴰ r (bytesRows s)
+  pub in-left-over : List·Memᴰ r (leftOverRows E s) → List·Memᴰ r (bytesRows E s)
   unfolding bytesRows
-  in-left-over m = Memᴰ·append-right (to-first-events s ++ watchedSection s) m
+  in-left-over m = Memᴰ·append-right (to-first-events E s ++ watchedSection E s) m
 
   -- the bytes' rows, and then the loops'
-  pub in-bytes : List·Memᴰ r (bytesRows s) → List·Memᴰ r (rows s)
+  pub in-bytes : List·Memᴰ r (bytesRows E s) → List·Memᴰ r (rows E s)
   unfolding rows
-  in-bytes m = Memᴰ·append-left (each (nodeCount s) (loopRows s)) m
+  in-bytes m = Memᴰ·append-left (loopsSection (sheetOf E s)) m
 
-  pub in-loop : (v : ℕ) → v < nodeCount s → List·Memᴰ r (loopRows s v) → List·Memᴰ r (rows s)
+  pub in-loop : (v : ℕ) → v < nodeCount (sheetOf E s) → List·Memᴰ r (loopRows (sheetOf E s) v) → List·Memᴰ r (rows E s)
   unfolding rows
-  in-loop v h m = Memᴰ·append-right (bytesRows s) (each-mem (nodeCount s) (loopRows s) .1 (v, h, m))
+  in-loop v h m = Memᴰ·append-right (bytesRows E s) (each-mem (nodeCount (sheetOf E s)) (loopRows (sheetOf E s)) .1 (v, h, m))

@@ -4,73 +4,85 @@ use mathlib.Core.Logic.{_⊎_}
 use mathlib.Core.Path.{_≡_}
 use Prim.Native.Nat.{ℕ, _<_, _≤_}
 use lib.ListN.{length}
+use Rattle.level.specs.Kind.{lastKind}
+use Rattle.sheet.specs.declared.Edition.{Edition}
 use Rattle.sheet.specs.declared.Module.{Module}
 use Rattle.sheet.specs.declared.Event.{Event}
-use Rattle.sheet.specs.Layout.{nodeCount, nodeByte, moduleCount, moduleOf, eventCount, eventOf, watchedCount, watchedNode, sheetEnd}
+use Rattle.sheet.specs.Limits.{leastNodes, mostNodes, mostModules, mostEvents, mostWatched, inputByte, lastValue, longestDelay, lastTick}
+use Rattle.sheet.specs.Sheet.{Sheet, nodeCount, nodeByte, moduleCount, moduleOf, outputOf, eventCount, eventOf, watchedCount, watchedNode}
 use Rattle.sheet.specs.Wiring.{usedInputs, unusedInputs}
 use Rattle.sheet.specs.Loop.{OnLoop}
+use Rattle.sheet.specs.Layout.{firstEdition, sheetEnd, sheetOf}
 use Rattle.sheet.specs.Refusal.{greatestParameter, key}
 
 -- a module drives the node
-pub record Driven (s : List ℕ) (v : ℕ) : Type 0 where
+pub record Driven (S : Sheet) (v : ℕ) : Type 0 where
   pub driver : ℕ
-  pub listed : driver < moduleCount s
-  pub output : moduleOf s driver .output ≡ v
+  pub listed : driver < moduleCount S
+  pub output : outputOf S driver ≡ v
 
 -- an input is a node that no module drives
-pub record Input (s : List ℕ) (v : ℕ) : Type 0 where
-  pub node : v < nodeCount s
-  pub undriven : Driven s v → ⊥
+pub record Input (S : Sheet) (v : ℕ) : Type 0 where
+  pub node : v < nodeCount S
+  pub undriven : Driven S v → ⊥
 
 -- a module's record by itself, among so many nodes
 pub record SoundModule (nodes : ℕ) (m : Module) : Type 0 where
-  pub kind : m .kind ≤ 9
+  pub kind : m .kind ≤ lastKind
   pub parameter : m .parameter ≤ greatestParameter (m .kind)
   pub output : m .output < nodes
   pub used : (v : ℕ) → List·Memᴰ v (usedInputs m) → v < nodes
   pub unused : (v : ℕ) → List·Memᴰ v (unusedInputs m) → v ≡ 0
-  pub delay : m .delay ≤ 10000
+  pub delay : m .delay ≤ longestDelay
 
 -- an event's record by itself
-pub record SoundEvent (s : List ℕ) (e : Event) : Type 0 where
-  pub tick : e .tick ≤ 999999
-  pub node : Input s (e .node)
-  pub value : e .value ≤ 3
+pub record SoundEvent (S : Sheet) (e : Event) : Type 0 where
+  pub tick : e .tick ≤ lastTick
+  pub node : Input S (e .node)
+  pub value : e .value ≤ lastValue
 
 -- one event before another: by tick, then by node
 abbrev pub Before : Event → Event → Type 0
 Before a b = (a .tick < b .tick) ⊎ ((a .tick ≡ b .tick) × (a .node < b .node))
 
 -- an event at tick 0 drives the node
-pub record DrivenAtStart (s : List ℕ) (v : ℕ) : Type 0 where
+pub record DrivenAtStart (S : Sheet) (v : ℕ) : Type 0 where
   pub event : ℕ
-  pub listed : event < eventCount s
-  pub tick : eventOf s event .tick ≡ 0
-  pub node : eventOf s event .node ≡ v
+  pub listed : event < eventCount S
+  pub tick : eventOf S event .tick ≡ 0
+  pub node : eventOf S event .node ≡ v
 
-pub record Accepted (s : List ℕ) : Type 0 where
+pub record Accepted (S : Sheet) : Type 0 where
   -- the counts' ranges
-  pub some-node : 1 ≤ nodeCount s
-  pub nodes : nodeCount s ≤ 256
-  pub modules : moduleCount s ≤ 256
-  pub events : eventCount s ≤ 1024
-  pub watched : watchedCount s ≤ 256
+  pub some-node : leastNodes ≤ nodeCount S
+  pub nodes : nodeCount S ≤ mostNodes
+  pub modules : moduleCount S ≤ mostModules
+  pub events : eventCount S ≤ mostEvents
+  pub watched : watchedCount S ≤ mostWatched
   -- the records' fields
-  pub node-bytes : (v : ℕ) → v < nodeCount s → nodeByte s v ≤ 4
-  pub sound-modules : (m : ℕ) → m < moduleCount s → SoundModule (nodeCount s) (moduleOf s m)
-  pub sound-events : (e : ℕ) → e < eventCount s → SoundEvent s (eventOf s e)
-  pub watched-nodes : (k : ℕ) → k < watchedCount s → watchedNode s k < nodeCount s
+  pub node-bytes : (v : ℕ) → v < nodeCount S → nodeByte S v ≤ inputByte
+  pub sound-modules : (m : ℕ) → m < moduleCount S → SoundModule (nodeCount S) (moduleOf S m)
+  pub sound-events : (e : ℕ) → e < eventCount S → SoundEvent S (eventOf S e)
+  pub watched-nodes : (k : ℕ) → k < watchedCount S → watchedNode S k < nodeCount S
   -- one driver a node
-  pub one-driver : (a b : ℕ) → a < moduleCount s → b < moduleCount s → moduleOf s a .output ≡ moduleOf s b .output → a ≡ b
+  pub one-driver : (a b : ℕ) → a < moduleCount S → b < moduleCount S → outputOf S a ≡ outputOf S b → a ≡ b
   -- driven nodes have an initial value, and inputs have 4
-  pub initial-values : (v : ℕ) → v < nodeCount s → Driven s v → nodeByte s v ≤ 3
-  pub inputs : (v : ℕ) → Input s v → nodeByte s v ≡ 4
+  pub initial-values : (v : ℕ) → v < nodeCount S → Driven S v → nodeByte S v ≤ lastValue
+  pub inputs : (v : ℕ) → Input S v → nodeByte S v ≡ inputByte
   -- the drive rises strictly by tick and then by node; every input is driven at tick 0
-  pub drive-rises : (a b : ℕ) → a < b → b < eventCount s → key (eventOf s a) < key (eventOf s b)
-  pub driven-at-start : (v : ℕ) → Input s v → DrivenAtStart s v
+  pub drive-rises : (a b : ℕ) → a < b → b < eventCount S → key (eventOf S a) < key (eventOf S b)
+  pub driven-at-start : (v : ℕ) → Input S v → DrivenAtStart S v
   -- the watched nodes rise
-  pub watched-rise : (a b : ℕ) → a < b → b < watchedCount s → watchedNode s a < watchedNode s b
+  pub watched-rise : (a b : ℕ) → a < b → b < watchedCount S → watchedNode S a < watchedNode S b
   -- no zero-delay loop
-  pub no-loop : (v : ℕ) → OnLoop s v → ⊥
-  -- no byte is missing and none is left over
-  pub whole : length s ≡ sheetEnd s
+  pub no-loop : (v : ℕ) → OnLoop S v → ⊥
+
+-- the editions of the sheet that there are
+pub data Known : Edition → Type 0 where
+  the-first : Known firstEdition
+
+-- Bytes that a check does not refuse in an edition: such a sheet stands in them, its kinds are the edition's, and no byte is missing and none is left over.
+pub record AcceptedIn (e : Edition) (s : List ℕ) : Type 0 where
+  pub sheet : Accepted (sheetOf e s)
+  pub kinds : (m : ℕ) → m < moduleCount (sheetOf e s) → moduleOf (sheetOf e s) m .kind ≤ e .greatest
+  pub whole : length s ≡ sheetEnd e s

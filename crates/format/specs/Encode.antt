@@ -1,10 +1,12 @@
 -- Document 01, "The sheet", the other way: a sheet's bytes. A count is two bytes; numbers of several bytes have the low byte first.
 use mathlib.Core.List.{List, [], _∷_, _++_, List·Memᴰ}
-use Prim.Native.Nat.{ℕ, _/_, _%_, _^_, _<_}
-use lib.ListN.{length, getD}
+use Prim.Native.Nat.{ℕ, _-_, _/_, _%_, _^_, _<_}
+use lib.ListN.{length, getD, take}
+use Rattle.sheet.specs.declared.Edition.{Edition}
 use Rattle.sheet.specs.declared.Module.{Module}
 use Rattle.sheet.specs.declared.Event.{Event}
-use Rattle.format.specs.Sheet.{Sheet}
+use Rattle.sheet.specs.Sheet.{Sheet}
+use Rattle.sheet.specs.Wiring.{inputs}
 
 abbrev pub wordBytes : ℕ → List ℕ
 wordBytes n = n % 256 ∷ n / 256 % 256 ∷ []
@@ -12,8 +14,9 @@ wordBytes n = n % 256 ∷ n / 256 % 256 ∷ []
 abbrev pub longBytes : ℕ → List ℕ
 longBytes n = n % 256 ∷ n / 256 % 256 ∷ n / 65536 % 256 ∷ n / 16777216 % 256 ∷ []
 
-abbrev pub moduleBytes : Module → List ℕ
-moduleBytes m = m .kind ∷ m .parameter ∷ m .output ∷ m .first ∷ m .second ∷ wordBytes (m .delay)
+-- as many of the inputs as the edition's record has room for
+abbrev pub moduleBytes : Edition → Module → List ℕ
+moduleBytes e m = take (e .size - 2) (m .kind ∷ m .parameter ∷ m .output ∷ inputs m) ++ wordBytes (m .delay)
 
 abbrev pub eventBytes : Event → List ℕ
 eventBytes e = longBytes (e .tick) ++ e .node ∷ e .value ∷ []
@@ -23,12 +26,12 @@ unfoldable pub allBytes {ℓ} : {A : Type ℓ} → (A → List ℕ) → List A �
 allBytes bytes [] = []
 allBytes bytes (r ∷ rs) = bytes r ++ allBytes bytes rs
 
-unfoldable pub encode : Sheet → List ℕ
-encode sheet =
+unfoldable pub encode : Edition → Sheet → List ℕ
+encode e sheet =
     wordBytes (length (sheet .nodes))
     ++ sheet .nodes
     ++ wordBytes (length (sheet .modules))
-    ++ allBytes moduleBytes (sheet .modules)
+    ++ allBytes (moduleBytes e) (sheet .modules)
     ++ wordBytes (length (sheet .drive))
     ++ allBytes eventBytes (sheet .drive)
     ++ wordBytes (length (sheet .watched))

@@ -1,6 +1,5 @@
 -- What an accepted sheet is, and how a sheet is written as bytes.
 pub mod Accepted
-pub mod Sheet
 pub mod Encode
 pub mod FirstMet
 pub mod Condition

@@ -19,11 +19,11 @@ Hold examples = (e : Example) → List·Memᴰ e examples → e .given ≡ e .st
 
 abbrev pub gateExamples : List Example
 gateExamples =
-    is (nand low none) high
-    ∷ is (and high none) unknown
-    ∷ is (or high none) high
-    ∷ is (xor unknown unknown) unknown
-    ∷ is (inverter none) unknown
-    ∷ is (clockedInverter low unknown) none
-    ∷ is (clockedInverter high unknown) none
+    is (nand (low ∷ none ∷ [])) high
+    ∷ is (and (high ∷ none ∷ [])) unknown
+    ∷ is (or (high ∷ none ∷ [])) high
+    ∷ is (xor (unknown ∷ unknown ∷ [])) unknown
+    ∷ is (inverter (none ∷ [])) unknown
+    ∷ is (clockedInverter (low ∷ unknown ∷ [])) none
+    ∷ is (clockedInverter (high ∷ unknown ∷ [])) none
     ∷ []

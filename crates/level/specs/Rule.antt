@@ -1,25 +1,22 @@
--- A module's rule by its shape: which inputs it uses, and what it does with their values.
+-- A module's rule: how many inputs it uses, and what it does with the list of their values.
 use mathlib.Core.Bool.{Bool}
+use mathlib.Core.List.{List}
 use Prim.Native.Nat.{ℕ}
 use Rattle.level.specs.Choice.{if_then_else_}
+use Rattle.level.specs.Gate.{inputAt}
 
--- no input, and the value; one input; two inputs; a memory, with its set of values
+-- a gate of so many inputs, with a function of their values; a memory of two, with its set of values
 pub data Rule : Type 0 where
-  fixed : ℕ → Rule
-  one : (ℕ → ℕ) → Rule
-  two : (ℕ → ℕ → ℕ) → Rule
+  gate : ℕ → (List ℕ → ℕ) → Rule
   hold : (ℕ → Bool) → Rule
 
 -- how many inputs it uses, from the first on
 abbrev pub inputsOf : Rule → ℕ
-inputsOf (fixed v) = 0
-inputsOf (one f) = 1
-inputsOf (two f) = 2
+inputsOf (gate n f) = n
 inputsOf (hold set) = 2
 
--- What a rule comes to at its inputs' values. A memory comes to its first input where the second is in its set, and otherwise to the value that it held.
-abbrev pub comesTo : Rule → ℕ → ℕ → ℕ → ℕ
-comesTo (fixed v) first second held = v
-comesTo (one f) first second held = f first
-comesTo (two f) first second held = f first second
-comesTo (hold set) first second held = if set second then first else held
+-- What a rule comes to at the values of the inputs that it uses.
+-- A memory comes to its first input where the second is in its set, and otherwise to the value that it held.
+abbrev pub comesTo : Rule → List ℕ → ℕ → ℕ
+comesTo (gate n f) inputs held = f inputs
+comesTo (hold set) inputs held = if set (inputAt inputs 1) then inputAt inputs 0 else held

@@ -1,11 +1,24 @@
 // The four values of a cell, and the gates' rules as constant tables over them.
 ghost use mathlib.Core.Path.{_≡_};
+ghost use mathlib.Core.List.{List, [], _∷_};
 ghost use Prim.Native.Nat.{ℕ, _%_, _<_, _≤_};
+ghost use lib.ListN.{take};
 ghost use Rattle.level.specs.Level.{printed};
 ghost use Rattle.level.specs.Gate.{member};
-ghost use Rattle.level.specs.Rule.{comesTo};
+ghost use Rattle.level.specs.Rule.{inputsOf, comesTo};
 ghost use Rattle.level.specs.Kind.{ruleOf};
-ghost use Rattle.level.specs.Table.{entryOf};
+ghost use Rattle.level.specs.Table.{tables, entryOf};
+
+// The last kind that has a rule, and the kind of a memory.
+pub const LAST_KIND: u8 = 9;
+
+pub const MEMORY: u8 = 9;
+
+// Kinds 1 to this one are gates of one input.
+pub const LAST_OF_ONE: u8 = 2;
+
+// The entries of all tables.
+pub const TABLE_ENTRIES: usize = 104;
 
 // The bytes that print the values, by value.
 const PRINTED: [u8; 4] = [b'0', b'1', b'X', b'Z'];
@@ -13,8 +26,8 @@ const PRINTED: [u8; 4] = [b'0', b'1', b'X', b'Z'];
 // The weight of each value in a memory's set.
 const WEIGHTS: [u8; 4] = [1, 2, 4, 8];
 
-// Kinds 1 and 2, 4 entries each, by the input's value; then kinds 3 to 8, 16 entries each, by the first input's value and then the second's.
-const TABLES: [u8; 104] = [
+// Kinds 1 and 2, 4 entries each, by the input's value; then kinds 3 to 8, 16 entries each, by the first input's value, then the second's.
+const TABLES: [u8; TABLE_ENTRIES] = [
     // 1 buffer
     0,
     1,
@@ -173,31 +186,64 @@ impl Level {
         set / WEIGHTS[(value % 4) as usize] % 2 == 1
     }
 
+    // All tables, for a caller that reads many entries: a function that names a constant array builds it anew at each call.
+    pub fn tables() -> [u8; TABLE_ENTRIES]
+        ensures { λ r. ⌜ r ≡ tables ⌝ }
+    {
+        TABLES
+    }
+
+    // Where the entry of a gate of one input stands in the tables: where its kind's table begins, and the place of the input's value in it.
+    pub fn place_of_one(kind: u8, first: u8) -> usize
+        requires { ⌜ (1 ≤ kind) × (kind ≤ 2) × (first < 4) ⌝ }
+        ensures { λ r. ⌜ (r < 104) × (r ≡ entryOf kind (first ∷ [])) ⌝ }
+    {
+        4 * (kind as usize) + (first as usize) - 4
+    }
+
+    // The same of a gate of two inputs.
+    pub fn place_of_two(kind: u8, first: u8, second: u8) -> usize
+        requires { ⌜ (3 ≤ kind) × (kind ≤ 8) × (first < 4) × (second < 4) ⌝ }
+        ensures { λ r. ⌜ (r < 104) × (r ≡ entryOf kind (first ∷ second ∷ [])) ⌝ }
+    {
+        16 * (kind as usize) + 4 * (first as usize) + (second as usize) - 40
+    }
+
     // A constant, kind 0: its parameter, whatever the inputs and the value held.
     pub fn constant(parameter: u8) -> u8
-        ensures { λ r. ⌜ ((first second held : ℕ) → r ≡ comesTo (ruleOf 0 parameter) first second held) ⌝ }
+        ensures { λ r. ⌜ ((inputs : List ℕ) (held : ℕ) → r ≡ comesTo (ruleOf 0 parameter) inputs held) ⌝ }
     {
         parameter
     }
 
-    // A gate of kind 1 to 8 over its inputs' values.
+    // What a kind's rule comes to at its inputs' values, with parameter 0 and held value 0. Only the values' two low bits count.
     pub fn gate(kind: u8, first: u8, second: u8) -> u8
-        ensures { λ r. ⌜ (1 ≤ kind → kind ≤ 8 → first < 4 → second < 4 → r ≡ comesTo (ruleOf kind 0) first second 0) ⌝ }
+        ensures { λ r. ⌜ r ≡ comesTo (ruleOf kind 0) (take (inputsOf (ruleOf kind 0)) (first % 4 ∷ second % 4 ∷ [])) 0 ⌝ }
     {
-        TABLES[entry(kind, first, second)]
+        if kind == 0 {
+            Level::LOW
+        } else if kind <= LAST_OF_ONE {
+            TABLES[Level::place_of_one(kind, first % 4)]
+        } else if kind < MEMORY {
+            TABLES[Level::place_of_two(kind, first % 4, second % 4)]
+        } else if kind == MEMORY {
+            Level::LOW
+        } else {
+            Level::UNKNOWN
+        }
     }
 }
 
-// The place in the tables of a gate's entry: where its kind's table begins, and the place of the inputs' values in it.
-fn entry(kind: u8, first: u8, second: u8) -> usize
-    ensures { λ r. ⌜ (r < 104) × (1 ≤ kind → kind ≤ 8 → first < 4 → second < 4 → r ≡ entryOf kind first second) ⌝ }
+// How many inputs each kind uses, from the first on.
+const INPUTS: [u8; 10] = [0, 1, 1, 2, 2, 2, 2, 2, 2, 2];
+
+// How many inputs a kind uses; a kind that no table has uses none.
+pub fn inputs(kind: u8) -> u8
+    ensures { λ r. ⌜ ((parameter : ℕ) → r ≡ inputsOf (ruleOf kind parameter)) ⌝ }
 {
-    let a = (first % 4) as usize;
-    let b = (second % 4) as usize;
-    let k = kind as usize;
-    if k < 3 {
-        (k + 1) % 2 * 4 + a
+    if kind <= LAST_KIND {
+        INPUTS[kind as usize]
     } else {
-        8 + (k - 3) % 6 * 16 + a * 4 + b
+        0
     }
 }

@@ -1,9 +1,8 @@
--- Two lists that have nothing twice, the entries of each matched with entries of the other one to one, are of the same length: an entry and its match may be taken out of
--- both, and no other entry loses its match. Assumes nothing.
+-- Two lists that have nothing twice, the entries of each going to entries of the other and back, are of the same length: an entry and where it goes may be taken out of both. Assumes nothing.
 use lib.ListN.{length}
 use mathlib.Core.List.{List, [], _∷_, List·Memᴰ, List·Memᴰ·head, List·Memᴰ·tail}
 use mathlib.Core.Logic.{_⊎_, inl, inr, ⊎-elim}
-use mathlib.Core.Path.{_≡_, refl, sym, ap, _∙_, subst}
+use mathlib.Core.Path.{_≡_, refl, sym, ap, _∙_}
 use native.Mathlib.Omega.{arith}
 use Prim.Native.Nat.{suc, _≤_}
 use Rattle.network.proofs.Rising.{Pairs}
@@ -30,22 +29,23 @@ module _ {B : Type 0} {b : B} where
   others (List·Memᴰ·tail m) (List·Memᴰ·head f) = inr (List·Memᴰ·head f)
   others (List·Memᴰ·tail m) (List·Memᴰ·tail n) = ⊎-elim inl (λ i. inr (List·Memᴰ·tail i)) (others m n)
 
-module _ {A B : Type 0} (Match : A → B → Type 0) (one : (a c : A) (b : B) → Match a b → Match c b → a ≡ c) where
-  no-more : (l : List A) (r : List B) → Pairs Apart l → ((a : A) → List·Memᴰ a l → (b : B) × List·Memᴰ b r × Match a b) → length l ≤ length r
-  no-more [] r p match = omega arith
-  no-more (x ∷ l) r p match = omega (arith, without-length (y .1), no-more l (without (y .1)) (p .1) (λ a i. rest a i (match a (List·Memᴰ·tail i))))
-    where
-      y : (b : B) × List·Memᴰ b r × Match x b
-      y = match x (List·Memᴰ·head refl)
+-- entries of the one go to entries of the other, no two to the same
+no-more : {A B : Type 0} (f : A → B) (l : List A) (r : List B) → Pairs Apart l → ((a c : A) → List·Memᴰ a l → List·Memᴰ c l → f a ≡ f c → a ≡ c)
+    → ((a : A) → List·Memᴰ a l → List·Memᴰ (f a) r) → length l ≤ length r
+no-more f [] r p one into = omega arith
+no-more {A} f (x ∷ l) r p one into = omega (arith, without-length m, no-more f l (without m) (p .1) (λ a c i j. one a c (List·Memᴰ·tail i) (List·Memᴰ·tail j)) rest)
+  where
+    m : List·Memᴰ (f x) r
+    m = into x (List·Memᴰ·head refl)
 
-      rest : (a : A) → List·Memᴰ a l → (b : B) × List·Memᴰ b r × Match a b → (b : B) × List·Memᴰ b (without (y .1)) × Match a b
-      rest a i z = go (others (y .1) (z .1))
-        where
-          go : (z .0 ≡ y .0) ⊎ List·Memᴰ (z .0) (without (y .1)) → (b : B) × List·Memᴰ b (without (y .1)) × Match a b
-          go (inl e) = absurd (p .0 a i (one x a (y .0) (y .2) (subst (Match a) e (z .2))))
-          go (inr m) = (z .0, m, z .2)
+    rest : (a : A) → List·Memᴰ a l → List·Memᴰ (f a) (without m)
+    rest a i = ⊎-elim (λ e. absurd (p .0 a i (one x a (List·Memᴰ·head refl) (List·Memᴰ·tail i) (sym e)))) (λ n. n) (others m (into a (List·Memᴰ·tail i)))
 
-module _ {A B : Type 0} (Match : A → B → Type 0) (one-left : (a c : A) (b : B) → Match a b → Match c b → a ≡ c) (one-right : (a : A) (b d : B) → Match a b → Match a d → b ≡ d) where
-  pub same-length : (l : List A) (r : List B) → Pairs Apart l → Pairs Apart r → ((a : A) → List·Memᴰ a l → (b : B) × List·Memᴰ b r × Match a b)
-      → ((b : B) → List·Memᴰ b r → (a : A) × List·Memᴰ a l × Match a b) → length l ≡ length r
-  same-length l r p q right left = omega (arith, no-more Match one-left l r p right, no-more (λ b a. Match a b) (λ b d a. one-right a b d) r l q left)
+pub same-length : {A B : Type 0} (f : A → B) (g : B → A) (l : List A) (r : List B) → Pairs Apart l → Pairs Apart r → ((a : A) → List·Memᴰ a l → List·Memᴰ (f a) r × (g (f a) ≡ a))
+    → ((b : B) → List·Memᴰ b r → List·Memᴰ (g b) l × (f (g b) ≡ b)) → length l ≡ length r
+same-length f g l r p q right left =
+    omega (
+      arith,
+      no-more f l r p (λ a c i j e. sym (right a i .1) ∙ ap g e ∙ right c j .1) (λ a i. right a i .0),
+      no-more g r l q (λ b d i j e. sym (left b i .1) ∙ ap f e ∙ left d j .1) (λ b i. left b i .0),
+    )

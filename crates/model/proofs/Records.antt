@@ -1,57 +1,33 @@
 -- The records of a tick are those that the cells give, and what is shown afterwards are the watched nodes' cells of that tick. A record stands where a value
 -- differs from the one shown, which is the cell before; at tick 0 nothing is shown that a cell could be. Assumes nothing.
 use borrow.Author.Tests.{ne-eqb}
+use lib.Dec.{eqb}
+use lib.ListN.{length, getD}
 use mathlib.Core.Bool.{Bool, true, false, not}
-use mathlib.Core.List.{List, [], _∷_, List·Memᴰ, List·Memᴰ·head, List·Memᴰ·tail, List·Memᴰ·not-nil, List·Memᴰ·cases-cons}
-use mathlib.Core.Logic.{_⊎_, inl, inr}
+use mathlib.Core.List.{List, [], _∷_, List·Memᴰ, List·Memᴰ·head, List·Memᴰ·tail}
+use mathlib.Core.Logic.{inr}
 use mathlib.Core.Path.{_≡_, refl, ap, _∙_}
-use native.Mathlib.Decide.{ℕ-discrete}
 use native.Mathlib.Omega.{arith}
 use Prim.Native.Nat.{ℕ, zero, suc, _<_, _≤_}
-use lib.Dec.{eqb}
-use lib.ListN.{length, getD, set, length-set}
-use lib.Seq.{getD-set-same, getD-set-other}
 use Rattle.level.specs.Choice.{if_then_else_}
-use Rattle.sheet.specs.Layout.{nodeCount, watchedCount, watchedNode}
+use Rattle.sheet.specs.Sheet.{Sheet, nodeCount, watchedCount, watchedNode}
+use Rattle.sheet.proofs.Listed.{getD-mem}
 use Rattle.format.specs.Accepted.{Accepted}
-use Rattle.format.specs.Sheet.{sheetOf}
-use Rattle.format.proofs.Listed.{length-listed, getD-listed, listed-all, getD-mem}
 use Rattle.network.specs.Timeline.{Cells}
 use Rattle.network.specs.Listing.{changes, recordOf, recordsAt}
+use Rattle.network.proofs.Rising.{members-all}
 use Rattle.model.specs.Fresh.{notShown, fresh, showAll}
-use Rattle.model.specs.State.{State}
-use Rattle.model.specs.Ticks.{tickOf}
-use Rattle.model.specs.Standing.{before, Standing}
+use Rattle.model.specs.Standing.{before}
+use Rattle.model.proofs.Puts.{puts, puts-length, puts-at}
 
--- what is shown of watched nodes
-module _ (values : List ℕ) where
-  show-length : (shown vs : List ℕ) → length (showAll values shown vs) ≡ length shown
-  unfolding showAll
-  show-length shown [] = refl
-  show-length shown (v ∷ vs) = show-length (set shown v (getD values v 0)) vs ∙ length-set shown v (getD values v 0)
-
-  -- a value shown stays shown
-  show-keeps : (v : ℕ) (shown vs : List ℕ) → v < length shown → getD shown v 0 ≡ getD values v 0 → getD (showAll values shown vs) v 0 ≡ getD values v 0
-  unfolding showAll
-  show-keeps v shown [] h e = e
-  show-keeps v shown (w ∷ vs) h e = show-keeps v (set shown w (getD values w 0)) vs (rw length-set h) (at (ℕ-discrete v w))
-    where
-      at : Dec (v ≡ w) → getD (set shown w (getD values w 0)) v 0 ≡ getD values v 0
-      at (yes q) = rw (← q) (getD-set-same shown v (getD values v 0) 0 h)
-      at (no d) = getD-set-other shown w v (getD values w 0) 0 d ∙ e
-
-  show-each : (v : ℕ) (shown vs : List ℕ) → v < length shown → List·Memᴰ v vs → getD (showAll values shown vs) v 0 ≡ getD values v 0
-  unfolding showAll
-  show-each v shown [] h m = absurd (List·Memᴰ·not-nil m)
-  show-each v shown (w ∷ vs) h m = at (show-each v (set shown w (getD values w 0)) vs (rw length-set h)) (List·Memᴰ·cases-cons m)
-    where
-      at : (List·Memᴰ v vs → getD (showAll values (set shown w (getD values w 0)) vs) v 0 ≡ getD values v 0) → (v ≡ w) ⊎ List·Memᴰ v vs
-          → getD (showAll values (set shown w (getD values w 0)) vs) v 0 ≡ getD values v 0
-      at later (inl q) = show-keeps v (set shown w (getD values w 0)) vs (rw length-set h) (rw (← q) (getD-set-same shown v (getD values v 0) 0 h))
-      at later (inr m) = later m
+-- values are put where they are shown
+pub shows : (values shown vs : List ℕ) → showAll values shown vs ≡ puts (λ v. v) (λ v. getD values v 0) vs shown
+unfolding showAll
+shows values shown [] = refl
+shows values shown (v ∷ vs) = shows values _ vs
 
 -- a value differs from what is shown exactly where the cells have a change
-differs : (c : Cells) (v t : ℕ) (x y : ℕ) → x ≡ c t v → c t v ≤ 3 → y ≡ before (λ u. c u v) notShown t → not (eqb x y) ≡ changes c v t
+differs : (c : Cells) (v t x y : ℕ) → x ≡ c t v → c t v ≤ 3 → y ≡ before (λ u. c u v) notShown t → not (eqb x y) ≡ changes c v t
 differs c v zero x y e l s = ap not (ne-eqb x y (λ p. omega (arith, e, s)))
 differs c v (suc t) x y e l s = rw (e, s)
 
@@ -69,21 +45,21 @@ fresh-records c t values shown (v ∷ vs) h =
     at true d n e rest = rw (← n) rest
     at false d n e rest = rw (← n, e, rest)
 
-module _ (s table delays : List ℕ) (c : Cells) (horizon t : ℕ) (st : State) (acc : Accepted s) (stands : Standing s c horizon t st)
-    (settled : (v : ℕ) → v < nodeCount s → getD (tickOf s table delays horizon t st .state .values) v 0 ≡ c t v) where
-  pub tick-records : ((v : ℕ) → v < nodeCount s → c t v ≤ 3) → tickOf s table delays horizon t st .records ≡ recordsAt c t (sheetOf s .watched)
-  tick-records level =
-      fresh-records c t (tickOf s table delays horizon t st .state .values) (st .shown) (sheetOf s .watched)
-      (listed-all _ (watchedCount s) (watchedNode s)
-      (λ k h. let n = acc .watched-nodes k h in let e = settled (watchedNode s k) n in (e, differs c (watchedNode s k) t _ _ e (level (watchedNode s k) n) (stands .shown k h))))
+module _ (S : Sheet) (c : Cells) (t : ℕ) (acc : Accepted S) (values shown : List ℕ) (cells : (v : ℕ) → v < nodeCount S → getD values v 0 ≡ c t v) where
+  pub tick-records : ((v : ℕ) → v < nodeCount S → c t v ≤ 3) → ((k : ℕ) → k < watchedCount S → getD shown (watchedNode S k) 0 ≡ before (λ u. c u (watchedNode S k)) notShown t)
+      → fresh t values shown (S .watched) ≡ recordsAt c t (S .watched)
+  tick-records level stood =
+      fresh-records c t values shown (S .watched)
+      (members-all _ (S .watched) 0
+      (λ k h. let n = acc .watched-nodes k h in let e = cells (watchedNode S k) n in (e, differs c (watchedNode S k) t _ _ e (level (watchedNode S k) n) (stood k h))))
 
-  pub step-shown-size : length (tickOf s table delays horizon t st .state .shown) ≡ 256
-  step-shown-size = show-length (tickOf s table delays horizon t st .state .values) (st .shown) (sheetOf s .watched) ∙ stands .shown-size
+  module _ (size : length shown ≡ 256) where
+    pub shown-size : length (showAll values shown (S .watched)) ≡ 256
+    shown-size = ap length (shows values shown (S .watched)) ∙ puts-length _ _ (S .watched) shown ∙ size
 
-  pub step-shown : (k : ℕ) → k < watchedCount s → getD (tickOf s table delays horizon t st .state .shown) (watchedNode s k) 0 ≡ c t (watchedNode s k)
-  step-shown k h =
-      let n = acc .watched-nodes k h in
-      let small : watchedNode s k < length (st .shown) = omega (arith, acc .nodes, stands .shown-size) in
-      let listed = getD-mem (sheetOf s .watched) k 0 (rw (length-listed (watchedCount s) (watchedNode s)) h) in
-      show-each (tickOf s table delays horizon t st .state .values) (watchedNode s k) (st .shown) (sheetOf s .watched) small (rw (getD-listed (watchedCount s) (watchedNode s) k 0 h) at listed)
-      ∙ settled (watchedNode s k) n
+    pub now-shown : (k : ℕ) → k < watchedCount S → getD (showAll values shown (S .watched)) (watchedNode S k) 0 ≡ c t (watchedNode S k)
+    now-shown k h =
+        let n = acc .watched-nodes k h in
+        rw (shows values shown (S .watched))
+        (puts-at (λ v. v) (λ v. getD values v 0) (watchedNode S k) (c t (watchedNode S k)) (S .watched) shown (omega (arith, acc .nodes))
+        (λ v m e. rw e (cells (watchedNode S k) n)) (inr (watchedNode S k, getD-mem (S .watched) k 0 h, refl)))

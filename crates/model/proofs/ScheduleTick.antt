@@ -1,49 +1,116 @@
--- After the delayed modules are scheduled, each module came last to what it comes to at the tick: the pass reads settled values, and at its own position what the module came to before. Assumes nothing.
-use lib.ListN.{length, getD}
-use mathlib.Core.List.{List}
-use mathlib.Core.Path.{_≡_, _∙_}
+-- After the delayed modules are scheduled, each module came last to what it comes to at the tick, and the store holds what is owed before the next one: the pass reads settled values, and at
+-- its own position what the module came to before; what differs from that is scheduled, if it is due below the horizon. Assumes nothing.
+use borrow.Author.Tests.{eqb-true, eqb-false, ltb-true, ltb-false}
+use lib.Dec.{eqb, ltb}
+use lib.ListN.{getD, set}
+use lib.Seq.{set-getD}
+use mathlib.Core.Bool.{Bool, true, false}
+use mathlib.Core.List.{List, [], _∷_, _++_}
+use mathlib.Core.Path.{_≡_, refl, sym, ap, ap₂, _∙_}
 use native.Mathlib.Decide.{decLt}
 use native.Mathlib.Omega.{arith}
-use Prim.Native.Nat.{ℕ, _≤_, _<_}
-use Rattle.sheet.specs.Layout.{moduleCount}
+use Prim.Native.Nat.{ℕ, zero, suc, _+_, _≤_, _<_}
+use Rattle.level.specs.Choice.{if_then_else_}
+use Rattle.sheet.specs.Sheet.{Sheet, moduleCount}
+use Rattle.sheet.specs.WorkingOrder.{inWorkingOrder}
 use Rattle.network.specs.Timeline.{Cells}
-use Rattle.model.specs.Passes.{notDue, comesToNow, Scheduled}
-use Rattle.model.specs.State.{State, delayedBelow}
-use Rattle.model.specs.Standing.{Standing, aheadOf}
+use Rattle.model.specs.Change.{Change, notDue}
+use Rattle.model.specs.Store.{Store}
+use Rattle.model.specs.Passes.{Settled, Scheduled, scheduleOne, schedule}
+use Rattle.model.specs.State.{State, delayedCount}
+use Rattle.model.specs.Standing.{Standing, Owed, placed, aheadOf, changeAt}
 use Rattle.model.proofs.DelayedFirst.{delayed-listed}
-use Rattle.model.proofs.Setting.{Setting, settledIn, scheduledIn, sound}
-use Rattle.model.proofs.ComesNow.{comes-now}
-use Rattle.model.proofs.SettleTick.{settled-cells, settled-last, settled-last-delayed, settled-last-size}
-use Rattle.model.proofs.Scheduling.{last-size, last-kept, last-come}
+use Rattle.model.proofs.Setting.{Setting, heldBefore, module-at, sound, comes-level, comes-now}
+use Rattle.model.proofs.SettleTick.{Came, one-comes, settledIn, Worked, all-worked, settled-cells}
+use Rattle.model.proofs.Decided.{some-delay, cell-due, decided}
+use Rattle.model.proofs.Held.{Held, not-due, none-put, one-put}
 
-module _ {s : List ℕ} {c : Cells} {horizon : ℕ} {table delays : List ℕ} (S : Setting s c horizon table delays)
-    (t : ℕ) (below : t < horizon) (st : State) (stands : Standing s c horizon t st) where
-  abbrev first : ℕ
-  first = delayedBelow s (moduleCount s)
+abbrev pub scheduledIn : (store : Store) → Sheet → (horizon t : ℕ) → State store → Scheduled store
+scheduledIn store S horizon t st =
+    schedule store (inWorkingOrder S) t horizon (settledIn store S t st .values) (delayedCount S)
+    (record { last = settledIn store S t st .last; pending = store .rest (st .pending) t })
 
-  abbrev values : List ℕ
-  values = settledIn s table t st .values
+-- the first n delayed modules are scheduled
+pub record Planned (store : Store) (S : Sheet) (c : Cells) (horizon t : ℕ) (before : List ℕ) (n : ℕ) (now : Scheduled store) : Type 0 where
+  pub last : Came S c t 0 n before (now .last)
+  pub changes : List Change
+  pub pending : Held store S c horizon t n (now .pending) changes
 
-  abbrev start : Scheduled
-  start = record { last = settledIn s table t st .last; pending = notDue t (st .pending) }
+module _ {store : Store} {S : Sheet} {c : Cells} {horizon : ℕ} (G : Setting S c horizon) (t : ℕ) (before : List ℕ) where
+  -- one module more, with what it comes to and the tick at which that is due
+  module _ (n : ℕ) (h : n < delayedCount S) (now : Scheduled store) (p : Planned store S c horizon t before n now) (held : getD (now .last) n 0 ≡ heldBefore S c n t)
+      (x due : ℕ) (comes : x ≡ aheadOf S c n t) (level : x < 4) (delayed : due ≡ t + placed S n .delay) where
+    abbrev change : Change
+    change = record { due = due; position = n; value = x }
 
-  pub scheduled-last-size : length (scheduledIn s table delays horizon t st .last) ≡ 256
-  scheduled-last-size = last-size table delays t horizon values start first ∙ settled-last-size S t below st stands
+    last-next : Came S c t 0 (suc n) before (set (now .last) n x)
+    last-next = one-comes (p .last) (omega arith) (omega (arith, delayed-listed S n h, G .accepted .modules)) x comes level
 
-  -- a delayed module's, and those that the pass leaves
-  pub scheduled-delayed : (k : ℕ) → k < first → getD (scheduledIn s table delays horizon t st .last) k 0 ≡ comesToNow table values (settledIn s table t st .last) k
-  scheduled-delayed k h =
-      last-come table delays t horizon values start first k h (omega (arith, settled-last-size S t below st stands, delayed-listed s k h, S .accepted .modules))
+    planned : (same : Bool) → eqb x (getD (now .last) n 0) ≡ same → (soon : Bool) → ltb due horizon ≡ soon
+        → Planned store S c horizon t before (suc n) (if same then now else record { last = set (now .last) n x; pending = if soon then store .put (now .pending) change else now .pending })
+    planned true e soon f =
+        record {
+          last = rw (eqb-true x (getD (now .last) n 0) e, set-getD) at last-next;
+          changes = p .changes;
+          pending = none-put G t n (p .pending) (λ w. decided G n h t (w .below) .0 (w .differs) (sym comes ∙ eqb-true x (getD (now .last) n 0) e ∙ held));
+        }
+    planned false e true f =
+        let below : t + placed S n .delay < horizon = omega (arith, ltb-true due horizon f) in
+        let some = some-delay S n h in
+        let w : Owed S c horizon (suc t) n (t + placed S n .delay)
+        = record {
+          delayed = h;
+          due = omega arith;
+          decided = omega arith;
+          below = below;
+          later = omega arith;
+          differs = decided G n h t below .1 (λ i. eqb-false x (getD (now .last) n 0) e (comes ∙ i ∙ sym held));
+        } in
+        let same : change ≡ changeAt S c n (t + placed S n .delay) = ap₂ (λ u y. record { due = u; position = n; value = y }) delayed (comes ∙ sym (cell-due G n h t below)) in
+        record { last = last-next; changes = p .changes ++ changeAt S c n (t + placed S n .delay) ∷ []; pending = rw same (one-put G t n (p .pending) w) }
+    planned false e false f =
+        record { last = last-next; changes = p .changes; pending = none-put G t n (p .pending) (λ w. omega (arith, ltb-false due horizon f, w .below)) }
 
-  pub scheduled-kept : (k : ℕ) → first ≤ k → getD (scheduledIn s table delays horizon t st .last) k 0 ≡ getD (settledIn s table t st .last) k 0
-  scheduled-kept k h = last-kept table delays t horizon values start first k h
+module _ {store : Store} {S : Sheet} {c : Cells} {horizon : ℕ} (G : Setting S c horizon) (t : ℕ) (below : t < horizon) (st : State store) (stands : Standing store S c horizon t st) where
+  abbrev settled : Settled
+  settled = settledIn store S t st
 
-  pub scheduled-last : (k : ℕ) → k < moduleCount s → getD (scheduledIn s table delays horizon t st .last) k 0 ≡ aheadOf s c k t
-  scheduled-last k h = go (decLt k first)
+  abbrev start : Scheduled store
+  start = record { last = settled .last; pending = store .rest (st .pending) t }
+
+  w : Worked S c t (st .last) (moduleCount S) settled
+  w = all-worked G t below st stands
+
+  so-many : (n : ℕ) → n ≤ delayedCount S → Planned store S c horizon t (settled .last) n (schedule store (inWorkingOrder S) t horizon (settled .values) n start)
+  unfolding schedule
+  so-many zero h =
+      record {
+        last = record { size = w .last .size; levels = w .last .levels; come = λ k l b. absurd (omega arith); kept = λ k l. refl };
+        changes = notDue t (stands .held);
+        pending = not-due G t st stands;
+      }
+  so-many (suc n) h = one-more _ (so-many n (omega arith))
     where
-      go : Dec (k < first) → getD (scheduledIn s table delays horizon t st .last) k 0 ≡ aheadOf s c k t
-      go (yes l) =
-          scheduled-delayed k l
-          ∙ comes-now S t k h values (settledIn s table t st .last) (λ v u. settled-cells S t below st stands v (sound S k h .used v u))
-          (settled-last-delayed S t below st stands k l ∙ stands .last k h)
-      go (no l) = scheduled-kept k (omega arith) ∙ settled-last S t below st stands k (omega arith) h
+      listed : n < moduleCount S
+      listed = delayed-listed S n h
+
+      one-more : (now : Scheduled store) → Planned store S c horizon t (settled .last) n now
+          → Planned store S c horizon t (settled .last) (suc n) (scheduleOne store (inWorkingOrder S) t horizon (settled .values) now n)
+      one-more now p =
+          planned G t (settled .last) n h now p held _ _
+          (comes-now G n listed (settled .values) (now .last) t (λ v u. settled-cells G t below st stands v (sound G n listed .used v u)) held)
+          (comes-level G n listed (settled .values) (now .last) (w .levels) (p .last .levels))
+          (ap (λ m. t + m .delay) (module-at S n listed)) _ refl _ refl
+        where
+          held : getD (now .last) n 0 ≡ heldBefore S c n t
+          held = p .last .kept n (λ l. omega arith) ∙ w .last .kept n (λ l. absurd (omega arith)) ∙ stands .last n listed
+
+  pub all-planned : Planned store S c horizon t (settled .last) (delayedCount S) (scheduledIn store S horizon t st)
+  all-planned = so-many (delayedCount S) (omega arith)
+
+  pub scheduled-last : (k : ℕ) → k < moduleCount S → getD (scheduledIn store S horizon t st .last) k 0 ≡ aheadOf S c k t
+  scheduled-last k h = go (decLt k (delayedCount S))
+    where
+      go : Dec (k < delayedCount S) → getD (scheduledIn store S horizon t st .last) k 0 ≡ aheadOf S c k t
+      go (yes l) = all-planned .last .come k (omega arith) l
+      go (no l) = all-planned .last .kept k (λ b. omega arith) ∙ w .last .come k (omega arith) h

@@ -1,121 +1,131 @@
--- What the laws of a tick rest on: an accepted sheet, cells that satisfy it up to the horizon, and tables that hold its modules in working order;
--- and what that says of the module at a position, of its output's cells and of what it comes to. Assumes nothing.
+-- What the laws of a tick rest on: an accepted sheet and cells that satisfy it up to the horizon; and what that says of the module at a position, of its output's cells and of what
+-- it comes to. Assumes nothing.
 use borrow.Author.Tests.{lt-ltb, le-ltb}
-use mathlib.Core.List.{List}
-use mathlib.Core.Path.{_≡_, refl, sym, ap, _∙_, subst}
+use lib.ListN.{length, getD, length-map}
+use mathlib.Core.List.{List, [], _∷_, map, List·Memᴰ, List·Memᴰ·head, List·Memᴰ·tail}
+use mathlib.Core.Path.{_≡_, refl, sym, ap, ap₂, _∙_}
 use native.Mathlib.Omega.{arith}
 use Prim.Native.Nat.{ℕ, zero, suc, _-_, _≤_, _<_}
-use Rattle.level.specs.Rule.{Rule, comesTo}
-use Rattle.level.specs.Kind.{ruleOf}
-use Rattle.sheet.specs.declared.Module.{Module}
-use Rattle.sheet.specs.Layout.{nodeCount, nodeByte, moduleCount, moduleOf}
-use Rattle.format.specs.Accepted.{Accepted, Driven, Input, SoundModule}
-use Rattle.format.specs.Sheet.{sheetOf}
+use Rattle.level.specs.Rule.{comesTo}
+use Rattle.level.proofs.Gates.{values-map, length-used, level-bound}
+use Rattle.sheet.specs.Sheet.{Sheet, nodeCount, nodeByte, noModule, moduleCount, moduleOf}
+use Rattle.sheet.specs.Wiring.{inputs, moduleRule, usedInputs}
+use Rattle.sheet.specs.WorkingOrder.{workingOrder, inWorkingOrder}
 use Rattle.sheet.proofs.Tests.{decided}
+use Rattle.sheet.proofs.Listed.{getD-map}
+use Rattle.format.specs.Accepted.{Accepted, Driven, Input, SoundModule}
 use Rattle.format.proofs.Condition.{tells-driven, tells-input}
-use Rattle.network.specs.Parts.{initialOf}
-use Rattle.network.specs.Timeline.{Cells, driveCell, outputCell}
+use Rattle.network.specs.Timeline.{Cells, driveCell, inputCells, outputCell}
 use Rattle.network.specs.Satisfied.{Satisfied}
-use Rattle.network.specs.Order.{workingOrder}
-use Rattle.network.proofs.Parts.{module-total, module-in, initial-of, is-input}
 use Rattle.network.proofs.Memory.{at-start, recurrence}
 use Rattle.network.proofs.Listed.{position}
 use Rattle.network.proofs.WorkingOrder.{every-module-once, working-order}
 use Rattle.network.proofs.Values.{satisfied-values}
-use Rattle.model.specs.Table.{tableAt, moduleAt}
-use Rattle.model.specs.Drive.{driveTick}
-use Rattle.model.specs.Passes.{applyDue, notDue, Settled, settle, Scheduled, schedule}
-use Rattle.model.specs.State.{State, orderedAt, delayedBelow}
+use Rattle.model.specs.Passes.{moduleIn, inputValues, comesToNow}
+use Rattle.model.specs.Ticks.{orderedAt}
 use Rattle.model.specs.Standing.{before, placed, aheadOf}
+use Rattle.model.proofs.Puts.{Leveled}
 
-pub record Setting (s : List ℕ) (c : Cells) (horizon : ℕ) (table delays : List ℕ) : Type 0 where
-  pub accepted : Accepted s
-  pub satisfied : Satisfied (sheetOf s) horizon c
-  pub modules : (k : ℕ) → k < moduleCount s → moduleAt table delays k ≡ placed s k
-
--- the passes of a tick, from what is kept before it: the drive and the due changes, the modules of delay zero, the delayed ones; what the tick keeps has these by computation
-abbrev pub appliedIn : List ℕ → List ℕ → ℕ → State → List ℕ
-appliedIn s table t st = applyDue table t (st .pending) (driveTick s t (st .values))
-
-abbrev pub settledIn : List ℕ → List ℕ → ℕ → State → Settled
-settledIn s table t st =
-    settle table (delayedBelow s (moduleCount s)) (moduleCount s - delayedBelow s (moduleCount s)) (record { values = appliedIn s table t st; last = st .last })
-
-abbrev pub scheduledIn : List ℕ → List ℕ → List ℕ → ℕ → ℕ → State → Scheduled
-scheduledIn s table delays horizon t st =
-    schedule table delays t horizon (settledIn s table t st .values) (delayedBelow s (moduleCount s))
-    (record { last = settledIn s table t st .last; pending = notDue t (st .pending) })
+pub record Setting (S : Sheet) (c : Cells) (horizon : ℕ) : Type 0 where
+  pub accepted : Accepted S
+  pub satisfied : Satisfied S horizon c
 
 -- a node is an input, or the output of the module at one position
-pub data Source (s : List ℕ) (v : ℕ) : Type 0 where
-  input : Input s v → Source s v
-  output : (k : ℕ) → k < moduleCount s → placed s k .output ≡ v → Source s v
+pub data Source (S : Sheet) (v : ℕ) : Type 0 where
+  input : Input S v → Source S v
+  output : (k : ℕ) → k < moduleCount S → placed S k .output ≡ v → Source S v
 
-pub source : (s : List ℕ) (v : ℕ) → v < nodeCount s → Source s v
-source s v h = which (decided _ (tells-driven s v))
+pub source : (S : Sheet) (v : ℕ) → v < nodeCount S → Source S v
+source S v h = which (decided _ (tells-driven S v))
   where
-    which : Dec (Driven s v) → Source s v
+    which : Dec (Driven S v) → Source S v
     which (yes d) =
-        let p = position (every-module-once s) (d .driver) (d .listed) in
-        output (p .0) (p .1) (ap (λ m. moduleOf s m .output) (p .2) ∙ d .output)
+        let p = position (every-module-once S) (d .driver) (d .listed) in
+        output (p .0) (p .1) (ap (λ m. moduleOf S m .output) (p .2) ∙ d .output)
     which (no n) = input (record { node = h; undriven = n })
 
--- the rule of the module at position k
-abbrev pub ruleAt : List ℕ → ℕ → Rule
-ruleAt s k = ruleOf (placed s k .kind) (placed s k .parameter)
+-- what the module at position k came to before tick t
+abbrev pub heldBefore : Sheet → Cells → ℕ → ℕ → ℕ
+heldBefore S c k t = before (aheadOf S c k) (nodeByte S (placed S k .output)) t
 
-module _ (s : List ℕ) (k : ℕ) where
-  -- what a module comes to follows from its inputs' cells and what it came to before
-  pub ahead-step : (c : Cells) (t : ℕ) → comesTo (ruleAt s k) (c t (placed s k .first)) (c t (placed s k .second)) (before (aheadOf s c k) (nodeByte s (placed s k .output)) t) ≡ aheadOf s c k t
-  ahead-step c zero = sym (at-start (λ u. c u (placed s k .first)) (λ u. c u (placed s k .second)) (nodeByte s (placed s k .output)) (ruleAt s k))
-  ahead-step c (suc t) = sym (recurrence (λ u. c u (placed s k .first)) (λ u. c u (placed s k .second)) (nodeByte s (placed s k .output)) (ruleAt s k) t)
+module _ (S : Sheet) where
+  -- the modules in working order, by position
+  pub module-total : length (inWorkingOrder S) ≡ moduleCount S
+  module-total = length-map (workingOrder S) (moduleOf S) ∙ every-module-once S .count
 
-  pub known : k < moduleCount s → orderedAt s k < moduleCount s
-  known = every-module-once s .known k
+  module _ (k : ℕ) where
+    -- what a module comes to follows from its inputs' cells and what it came to before
+    pub ahead-step : (c : Cells) (t : ℕ) → comesTo (moduleRule (placed S k)) (inputCells c (placed S k) t) (heldBefore S c k t) ≡ aheadOf S c k t
+    ahead-step c zero = sym (at-start (inputCells c (placed S k)) (nodeByte S (placed S k .output)) (moduleRule (placed S k)))
+    ahead-step c (suc t) = sym (recurrence (inputCells c (placed S k)) (nodeByte S (placed S k .output)) (moduleRule (placed S k)) t)
 
-module _ {s : List ℕ} {c : Cells} {horizon : ℕ} {table delays : List ℕ} (S : Setting s c horizon table delays) where
-  pub sound : (k : ℕ) → k < moduleCount s → SoundModule (nodeCount s) (placed s k)
-  sound k h = S .accepted .sound-modules (orderedAt s k) (known s k h)
+    module _ (h : k < moduleCount S) where
+      pub module-at : moduleIn (inWorkingOrder S) k ≡ placed S k
+      module-at = getD-map (moduleOf S) (workingOrder S) k 0 noModule (rw (every-module-once S .count) h)
+
+      pub known : orderedAt S k < moduleCount S
+      known = every-module-once S .known k h
+
+      pub is-driven : Driven S (placed S k .output)
+      is-driven = record { driver = orderedAt S k; listed = known; output = refl }
+
+map-same : (f g : ℕ → ℕ) (l : List ℕ) → ((v : ℕ) → List·Memᴰ v l → f v ≡ g v) → map f l ≡ map g l
+map-same f g [] same = refl
+map-same f g (v ∷ l) same = ap₂ _∷_ (same v (List·Memᴰ·head refl)) (map-same f g l (λ w m. same w (List·Memᴰ·tail m)))
+
+module _ {S : Sheet} {c : Cells} {horizon : ℕ} (G : Setting S c horizon) where
+  module _ (k : ℕ) (h : k < moduleCount S) where
+    pub sound : SoundModule (nodeCount S) (placed S k)
+    sound = G .accepted .sound-modules (orderedAt S k) (known S k h)
+
+    pub initial-level : nodeByte S (placed S k .output) ≤ 3
+    initial-level = G .accepted .initial-values (placed S k .output) (sound .output) (is-driven S k h)
+
+    -- cells of its output
+    module _ (t : ℕ) (below : t < horizon) where
+      output-cell : c t (placed S k .output) ≡ outputCell (moduleRule (placed S k)) (placed S k .delay) (inputCells c (placed S k)) (nodeByte S (placed S k .output)) t
+      output-cell = G .satisfied .modules t (orderedAt S k) below (known S k h)
+
+      pub early-cell : t < placed S k .delay → c t (placed S k .output) ≡ nodeByte S (placed S k .output)
+      early-cell e = output-cell ∙ rw (lt-ltb t (placed S k .delay) e)
+
+      pub later-cell : placed S k .delay ≤ t → c t (placed S k .output) ≡ aheadOf S c k (t - placed S k .delay)
+      later-cell e = output-cell ∙ rw (le-ltb t (placed S k .delay) e)
+
+      -- without a delay, at once
+      pub cell-at-once : placed S k .delay ≡ 0 → c t (placed S k .output) ≡ aheadOf S c k t
+      cell-at-once e = later-cell (omega arith) ∙ ap (aheadOf S c k) (omega arith)
+
+    -- what it comes to over present values
+    module _ (values last : List ℕ) where
+      now : comesToNow (inWorkingOrder S) values last k ≡ comesTo (moduleRule (placed S k)) (inputValues (placed S k) values) (getD last k 0)
+      now = ap (λ m. comesTo (moduleRule m) (inputValues m values) (getD last k 0)) (module-at S k h)
+
+      pub comes-level : Leveled values → Leveled last → comesToNow (inWorkingOrder S) values last k < 4
+      comes-level v l =
+          rw now
+          (level-bound (placed S k .kind) (placed S k .parameter) (inputValues (placed S k) values) (getD last k 0) constant
+          (length-map (usedInputs (placed S k)) (λ v. getD values v 0) ∙ length-used (placed S k .kind) (placed S k .parameter) (inputs (placed S k)) (omega arith))
+          (values-map (λ v. getD values v 0) (usedInputs (placed S k)) (λ i m. v i)) (l k))
+        where
+          constant : placed S k .kind ≡ 0 → placed S k .parameter < 4
+          constant e = let p = sound .parameter in omega (arith, rw e at p)
+
+      -- if its used inputs have the cells of a tick
+      pub comes-over : (t : ℕ) → ((v : ℕ) → List·Memᴰ v (usedInputs (placed S k)) → getD values v 0 ≡ c t v)
+          → comesToNow (inWorkingOrder S) values last k ≡ comesTo (moduleRule (placed S k)) (inputCells c (placed S k) t) (getD last k 0)
+      comes-over t same = now ∙ ap (λ l. comesTo (moduleRule (placed S k)) l (getD last k 0)) (map-same (λ v. getD values v 0) (c t) (usedInputs (placed S k)) same)
+
+      pub comes-now : (t : ℕ) → ((v : ℕ) → List·Memᴰ v (usedInputs (placed S k)) → getD values v 0 ≡ c t v) → getD last k 0 ≡ heldBefore S c k t
+          → comesToNow (inWorkingOrder S) values last k ≡ aheadOf S c k t
+      comes-now t same held = comes-over t same ∙ ap (comesTo (moduleRule (placed S k)) (inputCells c (placed S k) t)) held ∙ ahead-step S k c t
 
   -- one module drives a node, and no module an input
-  pub one-place : (j k : ℕ) → j < moduleCount s → k < moduleCount s → placed s j .output ≡ placed s k .output → j ≡ k
-  one-place j k h l e = every-module-once s .once j k h l (S .accepted .one-driver (orderedAt s j) (orderedAt s k) (known s j h) (known s k l) e)
+  pub one-place : (j k : ℕ) → j < moduleCount S → k < moduleCount S → placed S j .output ≡ placed S k .output → j ≡ k
+  one-place j k h l e = every-module-once S .once j k h l (G .accepted .one-driver (orderedAt S j) (orderedAt S k) (known S j h) (known S k l) e)
 
-  pub output-at : (k : ℕ) → k < moduleCount s → tableAt table k 2 ≡ placed s k .output
-  output-at k h = ap (λ m. m .output) (S .modules k h)
+  pub cell-level : (t v : ℕ) → t < horizon → v < nodeCount S → c t v ≤ 3
+  cell-level = satisfied-values S (G .accepted) (λ t. workingOrder S) horizon (λ t h. working-order S (G .accepted)) c (G .satisfied)
 
-  pub output-node : (k : ℕ) → k < moduleCount s → placed s k .output < nodeCount s
-  output-node k h = sound k h .output
-
-  pub initial-level : (k : ℕ) → k < moduleCount s → nodeByte s (placed s k .output) ≤ 3
-  initial-level k h = S .accepted .initial-values (placed s k .output) (output-node k h) (record { driver = orderedAt s k; listed = known s k h; output = refl })
-
-  pub cell-level : (t v : ℕ) → t < horizon → v < nodeCount s → c t v ≤ 3
-  cell-level = satisfied-values s (S .accepted) (λ t. workingOrder s) horizon (λ t h. working-order s (S .accepted)) c (S .satisfied)
-
-  -- cells by the bytes: an input's, and those of an output
-  pub input-cell : (t v : ℕ) → t < horizon → Input s v → c t v ≡ driveCell (sheetOf s .drive) v t
-  input-cell t v h i = S .satisfied .inputs t v h (rw (is-input s v, tells-input s v .1 i) tt)
-
-  pub output-cell : (t k : ℕ) → t < horizon → k < moduleCount s
-      → c t (placed s k .output) ≡ outputCell (ruleAt s k) (placed s k .delay) (λ u. c u (placed s k .first)) (λ u. c u (placed s k .second)) (nodeByte s (placed s k .output)) t
-  output-cell t k h l =
-      subst (λ x. c t (r .output) ≡ outputCell (ruleOf (r .kind) (r .parameter)) (r .delay) (λ u. c u (r .first)) (λ u. c u (r .second)) x t)
-      (initial-of s (r .output) (output-node k l))
-      (subst
-      (λ r. c t (r .output) ≡ outputCell (ruleOf (r .kind) (r .parameter)) (r .delay) (λ u. c u (r .first)) (λ u. c u (r .second)) (initialOf (sheetOf s) (r .output)) t)
-      (module-in s (orderedAt s k) (known s k l))
-      (S .satisfied .modules t (orderedAt s k) h (rw (module-total s) (known s k l))))
-    where
-      r : Module
-      r = placed s k
-
-  pub early-cell : (t k : ℕ) → t < horizon → k < moduleCount s → t < placed s k .delay → c t (placed s k .output) ≡ nodeByte s (placed s k .output)
-  early-cell t k h l e = output-cell t k h l ∙ rw (lt-ltb t (placed s k .delay) e)
-
-  pub later-cell : (t k : ℕ) → t < horizon → k < moduleCount s → placed s k .delay ≤ t → c t (placed s k .output) ≡ aheadOf s c k (t - placed s k .delay)
-  later-cell t k h l e = output-cell t k h l ∙ rw (le-ltb t (placed s k .delay) e)
-
-  -- without a delay, at once
-  pub cell-at-once : (t k : ℕ) → t < horizon → k < moduleCount s → placed s k .delay ≡ 0 → c t (placed s k .output) ≡ aheadOf s c k t
-  cell-at-once t k h l e = later-cell t k h l (omega arith) ∙ ap (aheadOf s c k) (omega arith)
+  pub input-cell : (t v : ℕ) → t < horizon → Input S v → c t v ≡ driveCell (S .drive) v t
+  input-cell t v h i = G .satisfied .inputs t v h (rw (tells-input S v .1 i) tt)

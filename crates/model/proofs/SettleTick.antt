@@ -5,150 +5,124 @@ use lib.Seq.{getD-set-same, getD-set-other}
 use mathlib.Core.List.{List, List·Memᴰ}
 use mathlib.Core.Path.{_≡_, refl, sym, ap, _∙_, subst}
 use native.Mathlib.Decide.{ℕ-discrete, decLt}
+use native.Mathlib.Nat.{add-zero, add-suc}
 use native.Mathlib.Omega.{arith}
 use Prim.Native.Nat.{ℕ, zero, suc, _+_, _-_, _≤_, _<_}
-use Rattle.sheet.specs.Layout.{nodeCount, moduleCount}
+use Rattle.sheet.specs.Sheet.{Sheet, nodeCount, moduleCount}
 use Rattle.sheet.specs.Wiring.{usedInputs}
+use Rattle.sheet.specs.WorkingOrder.{inWorkingOrder}
 use Rattle.network.specs.Timeline.{Cells}
-use Rattle.network.proofs.Rank.{rank-rises}
-use Rattle.network.proofs.WorkingOrder.{by-rank}
-use Rattle.model.specs.Table.{tableAt}
-use Rattle.model.specs.Passes.{comesToNow, Settled, settle}
-use Rattle.model.specs.State.{State, orderedAt, delayedBelow}
+use Rattle.network.proofs.WorkingOrder.{working-order}
+use Rattle.model.specs.Store.{Store}
+use Rattle.model.specs.Passes.{Settled, settleOne, settle}
+use Rattle.model.specs.State.{State, delayedCount}
 use Rattle.model.specs.Standing.{Standing, placed, aheadOf}
+use Rattle.model.proofs.Puts.{Leveled, set-level}
 use Rattle.model.proofs.DelayedFirst.{delayed-at-most, at-once-after}
-use Rattle.model.proofs.Setting.{Setting, Source, input, output, source, appliedIn, settledIn, known, sound, output-at, cell-at-once}
-use Rattle.model.proofs.ComesNow.{comes-now}
-use Rattle.model.proofs.DueTick.{applied-size, applied-input, applied-delayed}
+use Rattle.model.proofs.Setting.{Setting, Source, input, output, source, module-total, module-at, sound, comes-level, comes-now, cell-at-once}
+use Rattle.model.proofs.DueTick.{appliedIn, applied-size, applied-levels, applied-input, applied-delayed}
 
--- sizes stay, and the last values at other positions
-module _ (table : List ℕ) (d : ℕ) (st : Settled) where
-  settle-values-size : (j : ℕ) → length (settle table d j st .values) ≡ length (st .values)
-  unfolding settle
-  settle-values-size zero = refl
-  settle-values-size (suc j) = length-set (settle table d j st .values) (tableAt table (d + j) 2) _ ∙ settle-values-size j
+-- What the modules from position first on came to last, as they are worked one after the other: those below n to what they come to at the tick, and the others to what they held.
+pub record Came (S : Sheet) (c : Cells) (t first n : ℕ) (held last : List ℕ) : Type 0 where
+  pub size : length last ≡ 256
+  pub levels : Leveled last
+  pub come : (k : ℕ) → first ≤ k → k < n → getD last k 0 ≡ aheadOf S c k t
+  pub kept : (k : ℕ) → (first ≤ k → n ≤ k) → getD last k 0 ≡ getD held k 0
 
-  settle-last-size : (j : ℕ) → length (settle table d j st .last) ≡ length (st .last)
-  unfolding settle
-  settle-last-size zero = refl
-  settle-last-size (suc j) = length-set (settle table d j st .last) (d + j) _ ∙ settle-last-size j
+module _ {S : Sheet} {c : Cells} {t first n : ℕ} {held last : List ℕ} (w : Came S c t first n held last) where
+  pub one-comes : first ≤ n → n < 256 → (x : ℕ) → x ≡ aheadOf S c n t → x < 4 → Came S c t first (suc n) held (set last n x)
+  one-comes after h x comes level =
+      record {
+        size = length-set last n x ∙ w .size;
+        levels = set-level last n x level (w .levels);
+        come = λ k l b. at k l b (ℕ-discrete k n);
+        kept = λ k l. getD-set-other last n k x 0 (λ e. omega (arith, l (omega arith))) ∙ w .kept k (λ b. omega (arith, l b));
+      }
+    where
+      at : (k : ℕ) → first ≤ k → k < suc n → Dec (k ≡ n) → getD (set last n x) k 0 ≡ aheadOf S c k t
+      at k l b (yes e) = rw e (getD-set-same last n x 0 (omega (arith, w .size)) ∙ comes)
+      at k l b (no d) = getD-set-other last n k x 0 d ∙ w .come k l (omega arith)
 
-  settle-last-before : (j k : ℕ) → k < d → getD (settle table d j st .last) k 0 ≡ getD (st .last) k 0
-  unfolding settle
-  settle-last-before zero k h = refl
-  settle-last-before (suc j) k h = getD-set-other (settle table d j st .last) (d + j) k _ 0 (omega arith) ∙ settle-last-before j k h
+-- the values and what each module came to last, after the modules of delay zero; what the tick keeps has these by computation
+abbrev pub settledIn : (store : Store) → Sheet → ℕ → State store → Settled
+settledIn store S t st =
+    settle (inWorkingOrder S) (delayedCount S) (length (inWorkingOrder S) - delayedCount S) (record { values = appliedIn store S t st; last = st .last })
 
-  settle-last-after : (j k : ℕ) → d + j ≤ k → getD (settle table d j st .last) k 0 ≡ getD (st .last) k 0
-  unfolding settle
-  settle-last-after zero k h = refl
-  settle-last-after (suc j) k h = getD-set-other (settle table d j st .last) (d + j) k _ 0 (omega arith) ∙ settle-last-after j k (omega arith)
+-- the modules of delay zero below position n are worked: all nodes but the outputs of those to come have their cells
+pub record Worked (S : Sheet) (c : Cells) (t : ℕ) (held : List ℕ) (n : ℕ) (now : Settled) : Type 0 where
+  pub values-size : length (now .values) ≡ 256
+  pub levels : Leveled (now .values)
+  pub cells : (v : ℕ) → v < nodeCount S → ((k : ℕ) → n ≤ k → k < moduleCount S → placed S k .output ≡ v → ⊥) → getD (now .values) v 0 ≡ c t v
+  pub last : Came S c t (delayedCount S) n held (now .last)
 
-module _ {s : List ℕ} {c : Cells} {horizon : ℕ} {table delays : List ℕ} (S : Setting s c horizon table delays) where
-  -- what drives a used input of a module of delay zero stands before it
-  drives-before : (j k v : ℕ) → j < moduleCount s → k < moduleCount s → placed s k .delay ≡ 0 → List·Memᴰ v (usedInputs (placed s k)) → placed s j .output ≡ v → j < k
-  drives-before j k v h l d u e =
-      by-rank s j k h l
-      (rank-rises s (S .accepted) (orderedAt s j) (orderedAt s k) (known s j h) (known s k l) d (subst (λ w. List·Memᴰ w (usedInputs (placed s k))) (sym e) u))
+module _ {store : Store} {S : Sheet} {c : Cells} {horizon : ℕ} (G : Setting S c horizon) (t : ℕ) (below : t < horizon) (st : State store) (stands : Standing store S c horizon t st) where
+  -- one module more
+  module _ (n : ℕ) (after : delayedCount S ≤ n) (h : n < moduleCount S) (now : Settled) (w : Worked S c t (st .last) n now) where
+    at-once : placed S n .delay ≡ 0
+    at-once = at-once-after S n h after
 
-  module _ (t : ℕ) (below : t < horizon) (st : State) (stands : Standing s c horizon t st) where
-    abbrev first : ℕ
-    first = delayedBelow s (moduleCount s)
-
-    abbrev start : Settled
-    start = record { values = appliedIn s table t st; last = st .last }
-
-    -- j modules of delay zero are worked
-    abbrev after : ℕ → Settled
-    after j = settle table first j start
-
-    values-size : (j : ℕ) → length (after j .values) ≡ 256
-    values-size j = settle-values-size table first start j ∙ applied-size S t below st stands
-
-    last-size : (j : ℕ) → length (after j .last) ≡ 256
-    last-size j = settle-last-size table first start j ∙ stands .last-size
-
-    -- all nodes but the outputs of those to come have their cells
-    abbrev Cells-stand : ℕ → Type 0
-    Cells-stand j = (v : ℕ) → v < nodeCount s → ((k : ℕ) → first + j ≤ k → k < moduleCount s → placed s k .output ≡ v → ⊥) → getD (after j .values) v 0 ≡ c t v
-
-    at-once : (j : ℕ) → first + j < moduleCount s → placed s (first + j) .delay ≡ 0
-    at-once j h = at-once-after s (first + j) h (omega arith)
-
-    comes : (j : ℕ) → first + j < moduleCount s → Cells-stand j → comesToNow table (after j .values) (after j .last) (first + j) ≡ aheadOf s c (first + j) t
-    comes j h stand =
-        comes-now S t (first + j) h (after j .values) (after j .last)
-        (λ v u. stand v (sound S (first + j) h .used v u) (λ k l b e. omega (arith, drives-before k (first + j) v b h (at-once j h) u e)))
-        (settle-last-after table first start j (first + j) (omega arith) ∙ stands .last (first + j) h)
-
-    cells-stand : (j : ℕ) → first + j ≤ moduleCount s → Cells-stand j
-    unfolding settle
-    cells-stand zero h v node none = from (source s v node)
+    -- with what it comes to
+    worked : (out x : ℕ) → out ≡ placed S n .output → x ≡ aheadOf S c n t → x < 4 → Worked S c t (st .last) (suc n) (record { values = set (now .values) out x; last = set (now .last) n x })
+    worked out x o comes level =
+        record {
+          values-size = length-set (now .values) out x ∙ w .values-size;
+          levels = set-level (now .values) out x level (w .levels);
+          cells = λ v node none. cell v node none (ℕ-discrete v out);
+          last = one-comes (w .last) after (omega (arith, G .accepted .modules)) x comes level;
+        }
       where
-        from : Source s v → getD (appliedIn s table t st) v 0 ≡ c t v
-        from (input i) = applied-input S t below st stands v i
-        from (output k l e) = at (decLt k first)
+        cell : (v : ℕ) → v < nodeCount S → ((k : ℕ) → suc n ≤ k → k < moduleCount S → placed S k .output ≡ v → ⊥) → Dec (v ≡ out) → getD (set (now .values) out x) v 0 ≡ c t v
+        cell v node none (yes e) =
+            rw (← e) (getD-set-same (now .values) v x 0 (omega (arith, w .values-size, G .accepted .nodes)))
+            ∙ comes
+            ∙ sym (cell-at-once G n h t below at-once)
+            ∙ ap (c t) (sym (e ∙ o))
+        cell v node none (no d) = getD-set-other (now .values) out v x 0 d ∙ w .cells v node (λ k l b e. other k l b e (ℕ-discrete k n))
           where
-            at : Dec (k < first) → getD (appliedIn s table t st) v 0 ≡ c t v
-            at (yes b) = subst (λ w. getD (appliedIn s table t st) w 0 ≡ c t w) e (applied-delayed S t below st stands k b)
-            at (no b) = absurd (none k (omega arith) l e)
-    cells-stand (suc j) h v node none = go (cells-stand j (omega arith)) (ℕ-discrete v (placed s m .output))
-      where
-        m : ℕ
-        m = first + j
-
-        listed : first + j < moduleCount s
-        listed = omega arith
-
-        now : ℕ
-        now = comesToNow table (after j .values) (after j .last) (first + j)
-
-        go : Cells-stand j → Dec (v ≡ placed s m .output) → getD (set (after j .values) (tableAt table m 2) now) v 0 ≡ c t v
-        go stand (yes e) =
-            ap (λ n. getD (set (after j .values) n now) v 0) (output-at S m listed ∙ sym e)
-            ∙ getD-set-same (after j .values) v now 0 (omega (arith, values-size j, S .accepted .nodes))
-            ∙ comes j listed stand
-            ∙ sym (cell-at-once S t m below listed (at-once j listed))
-            ∙ ap (c t) (sym e)
-        go stand (no d) = getD-set-other (after j .values) (tableAt table m 2) v now 0 (λ e. d (e ∙ output-at S m listed)) ∙ stand v node (λ k l b e. other k l b e (ℕ-discrete k m))
-          where
-            other : (k : ℕ) → m ≤ k → k < moduleCount s → placed s k .output ≡ v → Dec (k ≡ m) → ⊥
-            other k l b e (yes i) = d (sym e ∙ ap (λ k. placed s k .output) i)
+            other : (k : ℕ) → n ≤ k → k < moduleCount S → placed S k .output ≡ v → Dec (k ≡ n) → ⊥
+            other k l b e (yes i) = d (sym e ∙ ap (λ k. placed S k .output) i ∙ sym o)
             other k l b e (no i) = none k (omega arith) b e
 
-    last-comes : (j : ℕ) → first + j ≤ moduleCount s → (k : ℕ) → first ≤ k → k < first + j → getD (after j .last) k 0 ≡ aheadOf s c k t
-    unfolding settle
-    last-comes zero h k l b = absurd (omega arith)
-    last-comes (suc j) h k l b = go (ℕ-discrete k (first + j)) (last-comes j (omega arith) k l)
-      where
-        m : ℕ
-        m = first + j
+    -- what drives a used input of it stands before it
+    one-more : Worked S c t (st .last) (suc n) (settleOne (inWorkingOrder S) now n)
+    one-more =
+        worked _ _ (ap (λ m. m .output) (module-at S n h))
+        (comes-now G n h (now .values) (now .last) t
+        (λ v u. w .cells v (sound G n h .used v u) (λ k l b e. omega (arith, working-order S (G .accepted) .after k n b h at-once (subst (λ v. List·Memᴰ v (usedInputs (placed S n))) (sym e) u))))
+        (w .last .kept n (λ l. omega arith) ∙ stands .last n h))
+        (comes-level G n h (now .values) (now .last) (w .levels) (w .last .levels))
 
-        now : ℕ
-        now = comesToNow table (after j .values) (after j .last) (first + j)
+  abbrev start : Settled
+  start = record { values = appliedIn store S t st; last = st .last }
 
-        go : Dec (k ≡ m) → (k < first + j → getD (after j .last) k 0 ≡ aheadOf s c k t) → getD (set (after j .last) m now) k 0 ≡ aheadOf s c k t
-        go (yes e) earlier =
-            subst (λ k. getD (set (after j .last) m now) k 0 ≡ aheadOf s c k t) (sym e)
-            (getD-set-same (after j .last) m now 0 (omega (arith, last-size j, S .accepted .modules))
-            ∙ comes j (omega arith) (cells-stand j (omega arith)))
-        go (no d) earlier = getD-set-other (after j .last) m k now 0 d ∙ earlier (omega arith)
+  none-worked : Worked S c t (st .last) (delayedCount S) start
+  none-worked =
+      record {
+        values-size = applied-size G t below st stands;
+        levels = applied-levels G t below st stands;
+        cells = λ v node none. from v none (source S v node);
+        last = record { size = stands .last-size; levels = stands .last-levels; come = λ k l b. absurd (omega arith); kept = λ k l. refl };
+      }
+    where
+      from : (v : ℕ) → ((k : ℕ) → delayedCount S ≤ k → k < moduleCount S → placed S k .output ≡ v → ⊥) → Source S v → getD (appliedIn store S t st) v 0 ≡ c t v
+      from v none (input i) = applied-input G t below st stands v i
+      from v none (output k l e) = at (decLt k (delayedCount S))
+        where
+          at : Dec (k < delayedCount S) → getD (appliedIn store S t st) v 0 ≡ c t v
+          at (yes b) = rw (← e) (applied-delayed G t below st stands k b)
+          at (no b) = absurd (none k (omega arith) l e)
 
-    rest : first + (moduleCount s - first) ≡ moduleCount s
-    rest = omega (arith, delayed-at-most s (moduleCount s))
+  so-many : (j : ℕ) → delayedCount S + j ≤ moduleCount S → Worked S c t (st .last) (delayedCount S + j) (settle (inWorkingOrder S) (delayedCount S) j start)
+  unfolding settle
+  so-many zero h = rw add-zero none-worked
+  so-many (suc j) h = rw add-suc (one-more (delayedCount S + j) (omega arith) (omega arith) _ (so-many j (omega arith)))
 
-    pub settled-values-size : length (settledIn s table t st .values) ≡ 256
-    settled-values-size = values-size (moduleCount s - first)
+  pub all-worked : Worked S c t (st .last) (moduleCount S) (settledIn store S t st)
+  all-worked =
+      let total = module-total S in
+      let most = delayed-at-most S in
+      subst (λ n. Worked S c t (st .last) n (settledIn store S t st)) (omega arith) (so-many (length (inWorkingOrder S) - delayedCount S) (omega arith))
 
-    pub settled-last-size : length (settledIn s table t st .last) ≡ 256
-    settled-last-size = last-size (moduleCount s - first)
-
-    -- every node has its cell of the tick
-    pub settled-cells : (v : ℕ) → v < nodeCount s → getD (settledIn s table t st .values) v 0 ≡ c t v
-    settled-cells v h = cells-stand (moduleCount s - first) (omega (arith, rest)) v h (λ k l b e. omega (arith, rest))
-
-    -- what the modules of delay zero came to last, and the delayed ones
-    pub settled-last : (k : ℕ) → first ≤ k → k < moduleCount s → getD (settledIn s table t st .last) k 0 ≡ aheadOf s c k t
-    settled-last k l h = last-comes (moduleCount s - first) (omega (arith, rest)) k l (omega (arith, rest))
-
-    pub settled-last-delayed : (k : ℕ) → k < first → getD (settledIn s table t st .last) k 0 ≡ getD (st .last) k 0
-    settled-last-delayed k h = settle-last-before table first start (moduleCount s - first) k h
+  -- every node has its cell of the tick
+  pub settled-cells : (v : ℕ) → v < nodeCount S → getD (settledIn store S t st .values) v 0 ≡ c t v
+  settled-cells v h = all-worked .cells v h (λ k l b e. omega arith)

@@ -1,69 +1,86 @@
--- What the run keeps stands in the cells before every tick up to the horizon: it does before tick 0, and a tick hands it on. Assumes nothing.
+-- What the run keeps stands in the cells before every tick up to the horizon: it does before tick 0, and a tick hands it on. So its records are the listing and its pending changes
+-- are as many as the cells have, whatever keeps them. Assumes nothing.
 use lib.ListN.{length}
-use mathlib.Core.List.{List}
-use mathlib.Core.Path.{_≡_}
+use mathlib.Core.List.{[], List·Memᴰ·not-nil}
+use mathlib.Core.Path.{_≡_, refl, _∙_}
+use native.Mathlib.Nat.{not-suc-le-zero}
 use native.Mathlib.Omega.{arith}
 use Prim.Native.Nat.{ℕ, zero, suc, _<_, _≤_}
-use Rattle.sheet.specs.Layout.{watchedNode}
-use Rattle.format.specs.Sheet.{sheetOf}
+use Rattle.sheet.specs.Enumerate.{each}
+use Rattle.sheet.specs.Sheet.{Sheet, watchedNode}
 use Rattle.network.specs.Timeline.{Cells}
 use Rattle.network.specs.Listing.{listing, pending}
+use Rattle.model.specs.Store.{Store}
 use Rattle.model.specs.State.{State}
-use Rattle.model.specs.Ticks.{Loaded, stateAt, recordsBelow}
-use Rattle.model.specs.Standing.{Standing}
-use Rattle.model.proofs.Setting.{Setting}
-use Rattle.model.proofs.SettleTick.{settled-cells}
-use Rattle.model.proofs.Owing.{base}
-use Rattle.model.proofs.PendingTick.{pending-tick, pending-total}
-use Rattle.model.proofs.ValuesTick.{step-values-size, step-values, step-levels, step-last-size, step-last, step-last-levels}
-use Rattle.model.proofs.Records.{step-shown-size, step-shown}
-use Rattle.model.proofs.RecordsBelow.{records-below}
+use Rattle.model.specs.Ticks.{Begun, tickOf, stateAt, recordsBelow}
+use Rattle.model.specs.Standing.{Owed, Standing}
+use Rattle.model.proofs.Setting.{Setting, cell-level}
+use Rattle.model.proofs.SettleTick.{all-worked, settled-cells}
+use Rattle.model.proofs.Decided.{none-early}
+use Rattle.model.proofs.Held.{all-held}
+use Rattle.model.proofs.ScheduleTick.{all-planned, scheduled-last}
+use Rattle.model.proofs.PendingCount.{pending-count}
+use Rattle.model.proofs.Records.{tick-records, shown-size, now-shown}
 
-module _ {s : List ℕ} {c : Cells} {horizon : ℕ} {table delays : List ℕ} (S : Setting s c horizon table delays) (st : State) (loaded : Loaded s table delays st) where
-  before-first : Standing s c horizon 0 st
-  before-first =
-      let o = base S st loaded in
+module _ {store : Store} {S : Sheet} {c : Cells} {horizon : ℕ} (G : Setting S c horizon) where
+  -- one tick
+  pub next-stands : (t : ℕ) → t < horizon → (st : State store) → Standing store S c horizon t st → Standing store S c horizon (suc t) (tickOf store S horizon t st .state)
+  next-stands t h st stands =
+      let worked = all-worked G t h st stands in
+      let planned = all-planned G t h st stands in
+      let cells = settled-cells G t h st stands in
       record {
-        values-size = loaded .values-size;
-        levels = loaded .levels;
-        values = loaded .values;
-        last-size = loaded .last-size;
-        last-levels = loaded .last-levels;
-        last = loaded .last;
-        shown-size = loaded .shown-size;
-        shown = λ k h. loaded .shown (watchedNode s k) (omega (arith, S .accepted .watched-nodes k h, S .accepted .nodes));
-        owed = o .owed;
-        pending = o .pending;
-        once = o .once;
+        values-size = worked .values-size;
+        levels = worked .levels;
+        values = cells;
+        last-size = planned .last .size;
+        last-levels = planned .last .levels;
+        last = scheduled-last G t h st stands;
+        shown-size = shown-size S c t (G .accepted) _ (st .shown) cells (stands .shown-size);
+        shown = now-shown S c t (G .accepted) _ (st .shown) cells (stands .shown-size);
+        held = planned .changes;
+        holds = planned .pending .holds;
+        owing = all-held G t (planned .pending) (λ k l. l);
       }
 
-  pub stands : (t : ℕ) → t ≤ horizon → Standing s c horizon t (stateAt s table delays horizon st t)
-  unfolding stateAt
-  stands zero h = before-first
-  stands (suc t) h =
-      let before = stands t (omega arith) in
-      let now = stateAt s table delays horizon st t in
-      let o = pending-tick S t h now before in
-      let cells = settled-cells S t h now before in
-      record {
-        values-size = step-values-size S t h now before;
-        levels = step-levels S t h now before;
-        values = step-values S t h now before;
-        last-size = step-last-size S t h now before;
-        last-levels = step-last-levels S t h now before;
-        last = step-last S t h now before;
-        shown-size = step-shown-size s table delays c horizon t now (S .accepted) before cells;
-        shown = step-shown s table delays c horizon t now (S .accepted) before cells;
-        owed = o .owed;
-        pending = o .pending;
-        once = o .once;
-      }
+  module _ (st : State store) (begun : Begun store S st) where
+    -- before tick 0 nothing is owed
+    before-first : Standing store S c horizon 0 st
+    before-first =
+        record {
+          values-size = begun .values-size;
+          levels = begun .levels;
+          values = begun .values;
+          last-size = begun .last-size;
+          last-levels = begun .last-levels;
+          last = begun .last;
+          shown-size = begun .shown-size;
+          shown = λ k h. begun .shown (watchedNode S k) (omega (arith, G .accepted .watched-nodes k h, G .accepted .nodes));
+          held = [];
+          holds = rw (begun .pending) (store .holds-nothing);
+          owing = record { owed = λ x m. absurd (List·Memᴰ·not-nil m); pending = λ k u o. absurd (none k u o); once = λ i j h b d e. not-suc-le-zero b };
+        }
+      where
+        none : (k u : ℕ) → Owed S c horizon 0 k u → ⊥
+        none k u o = none-early G k (o .delayed) u (o .later) (omega (arith, o .decided)) (o .below) (o .differs)
 
-  -- so the records of the ticks below a bound are the listing that the cells give
-  pub records : (t : ℕ) → t ≤ horizon → recordsBelow s table delays horizon st t ≡ listing (sheetOf s) c t
-  records = records-below s table delays c horizon st (S .accepted) stands
+    pub stands : (t : ℕ) → t ≤ horizon → Standing store S c horizon t (stateAt store S horizon st t)
+    unfolding stateAt
+    stands zero h = before-first
+    stands (suc t) h = next-stands t h (stateAt store S horizon st t) (stands t (omega arith))
 
-  -- and as many changes are pending after a tick as the cells have
-  pub pendings : (t : ℕ) → t < horizon → length (stateAt s table delays horizon st (suc t) .pending) ≡ length (pending (sheetOf s) c horizon t)
-  unfolding stateAt
-  pendings t h = pending-total S t h (stateAt s table delays horizon st t) (stands t (omega arith))
+    -- the records of the ticks below a bound are the listing that the cells give
+    pub records : (t : ℕ) → t ≤ horizon → recordsBelow store S horizon st t ≡ listing S c t
+    unfolding recordsBelow stateAt each
+    records zero h = refl
+    records (suc t) h =
+        rw (
+          records t (omega arith),
+          tick-records S c t (G .accepted) _ (stateAt store S horizon st t .shown) (stands (suc t) h .values) (λ v. cell-level G t v h) (stands t (omega arith) .shown),
+        )
+
+    -- as many changes are pending after a tick as the cells have
+    pub pendings : (t : ℕ) → t < horizon → store .count (stateAt store S horizon st (suc t) .pending) ≡ length (pending S c horizon t)
+    pendings t h =
+        let next = stands (suc t) h in
+        store .counts (stateAt store S horizon st (suc t) .pending) (next .held) (next .holds) ∙ pending-count S c horizon t (next .held) (next .owing)

@@ -1,14 +1,15 @@
--- A pending change in one number: its due tick, the module's position in the working order, and the value.
-use Prim.Native.Nat.{ℕ, _+_, _*_, _/_, _%_}
+-- A pending change: the tick at which it is due, the module's position in the working order, and the value that it gives.
+use mathlib.Core.List.{List, [], _∷_}
+use Prim.Native.Nat.{ℕ}
+use lib.Dec.{eqb}
+use Rattle.level.specs.Choice.{if_then_else_}
 
-abbrev pub change : ℕ → ℕ → ℕ → ℕ
-change due k value = 1024 * due + 4 * k + value
+pub record Change : Type 0 where
+  pub due : ℕ
+  pub position : ℕ
+  pub value : ℕ
 
-abbrev pub dueOf : ℕ → ℕ
-dueOf p = p / 1024
-
-abbrev pub positionOf : ℕ → ℕ
-positionOf p = p / 4 % 256
-
-abbrev pub valueOf : ℕ → ℕ
-valueOf p = p % 4
+-- the changes that stay pending after tick t
+unfoldable pub notDue : ℕ → List Change → List Change
+notDue t [] = []
+notDue t (x ∷ xs) = if eqb (x .due) t then notDue t xs else x ∷ notDue t xs

@@ -4,13 +4,13 @@ use Prim.Native.Nat.{ℕ}
 use lib.Dec.{eqb}
 use lib.ListN.{getD, set}
 use Rattle.level.specs.Choice.{if_then_else_}
-use Rattle.sheet.specs.declared.Event.{Event}
+use Rattle.network.specs.Listing.{Record}
 
 -- before the first tick no value is shown; this is none
 abbrev pub notShown : ℕ
 notShown = 255
 
-unfoldable pub fresh : ℕ → List ℕ → List ℕ → List ℕ → List Event
+unfoldable pub fresh : ℕ → List ℕ → List ℕ → List ℕ → List Record
 fresh t values shown [] = []
 fresh t values shown (v ∷ vs) =
     if eqb (getD values v 0) (getD shown v 0) then fresh t values shown vs

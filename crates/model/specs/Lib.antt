@@ -1,6 +1,6 @@
--- The run as plain functions on lists: what the code keeps, and what one tick makes of it.
-pub mod Table
+-- The run as plain functions on lists: what is kept, and what one tick makes of it.
 pub mod Change
+pub mod Store
 pub mod Drive
 pub mod Passes
 pub mod Fresh

@@ -2,47 +2,60 @@
 use mathlib.Core.List.{List}
 use Prim.Native.Nat.{ℕ, zero, suc, _+_, _-_}
 use lib.Dec.{eqb}
-use lib.ListN.{getD}
+use lib.ListN.{length}
 use Rattle.level.specs.Choice.{if_then_else_}
 use Rattle.level.specs.Level.{unknown}
+use Rattle.sheet.specs.declared.Module.{Module}
 use Rattle.sheet.specs.declared.Event.{Event}
-use Rattle.sheet.specs.Layout.{nodeByte, moduleOf, watchedCount, watchedNode}
-use Rattle.format.specs.Sheet.{listed}
-use Rattle.network.specs.Order.{workingOrder}
+use Rattle.sheet.specs.Limits.{inputByte}
+use Rattle.sheet.specs.Sheet.{Sheet, nodeByte, moduleCount, moduleOf}
+use Rattle.sheet.specs.WorkingOrder.{inWorkingOrder}
+use Rattle.network.specs.Listing.{Record}
+use Rattle.model.specs.Store.{Store}
 use Rattle.model.specs.Drive.{driveTick}
-use Rattle.model.specs.Passes.{applyDue, notDue, settle, schedule}
+use Rattle.model.specs.Passes.{giveAll, settle, schedule}
 use Rattle.model.specs.Fresh.{fresh, showAll}
 
-pub record State : Type 0 where
+-- What the ticks work on: the drive, the modules in working order, how many of them are delayed (they stand first), and the watched nodes.
+pub record Loaded : Type 0 where
+  pub drive : List Event
+  pub modules : List Module
+  pub delayed : ℕ
+  pub watched : List ℕ
+
+-- how many of the first n modules of a sheet are delayed
+unfoldable pub delayedBelow : Sheet → ℕ → ℕ
+delayedBelow S zero = zero
+delayedBelow S (suc n) = delayedBelow S n + (if eqb (moduleOf S n .delay) 0 then 0 else 1)
+
+abbrev pub delayedCount : Sheet → ℕ
+delayedCount S = delayedBelow S (moduleCount S)
+
+abbrev pub loadedOf : Sheet → Loaded
+loadedOf S = record { drive = S .drive; modules = inWorkingOrder S; delayed = delayedCount S; watched = S .watched }
+
+-- the value of a node before tick 0: its initial value, and X for an input
+abbrev pub firstValue : Sheet → ℕ → ℕ
+firstValue S v = if eqb (nodeByte S v) inputByte then unknown else nodeByte S v
+
+-- the nodes' values, the value that each module came to last, the values shown last, and the pending changes
+pub record State (store : Store) : Type 0 where
   pub values : List ℕ
   pub last : List ℕ
   pub shown : List ℕ
-  pub pending : List ℕ
+  pub pending : store .Kept
 
--- the module at position k of the working order, as the sheet numbers it
-abbrev pub orderedAt : List ℕ → ℕ → ℕ
-orderedAt s k = getD (workingOrder s) k 0
+-- one tick: what is kept after it, and its records
+pub record Ticked (store : Store) : Type 0 where
+  pub state : State store
+  pub records : List Record
 
--- how many of the first n modules are delayed: they stand first in the working order
-unfoldable pub delayedBelow : List ℕ → ℕ → ℕ
-delayedBelow s zero = zero
-delayedBelow s (suc n) = delayedBelow s n + (if eqb (moduleOf s n .delay) 0 then 0 else 1)
-
--- the value of a node before tick 0: its initial value, and X for an input
-abbrev pub firstValue : List ℕ → ℕ → ℕ
-firstValue s v = if eqb (nodeByte s v) 4 then unknown else nodeByte s v
-
--- one tick, from what was kept and the tables
-pub record Ticked : Type 0 where
-  pub state : State
-  pub records : List Event
-
-abbrev pub tick : List ℕ → List ℕ → List ℕ → ℕ → ℕ → ℕ → ℕ → State → Ticked
-tick s table delays delayed modules horizon t st =
-    let settled = settle table delayed (modules - delayed) (record { values = applyDue table t (st .pending) (driveTick s t (st .values)); last = st .last }) in
-    let scheduled = schedule table delays t horizon (settled .values) delayed (record { last = settled .last; pending = notDue t (st .pending) }) in
-    let watched = listed (watchedCount s) (watchedNode s) in
+abbrev pub tick : (store : Store) → Loaded → ℕ → ℕ → State store → Ticked store
+tick store l horizon t st =
+    let settled = settle (l .modules) (l .delayed) (length (l .modules) - l .delayed)
+    (record { values = giveAll (l .modules) (store .due (st .pending) t) (driveTick (l .drive) t (st .values)); last = st .last }) in
+    let scheduled = schedule store (l .modules) t horizon (settled .values) (l .delayed) (record { last = settled .last; pending = store .rest (st .pending) t }) in
     record {
-      state = record { values = settled .values; last = scheduled .last; shown = showAll (settled .values) (st .shown) watched; pending = scheduled .pending };
-      records = fresh t (settled .values) (st .shown) watched;
+      state = record { values = settled .values; last = scheduled .last; shown = showAll (settled .values) (st .shown) (l .watched); pending = scheduled .pending };
+      records = fresh t (settled .values) (st .shown) (l .watched);
     }

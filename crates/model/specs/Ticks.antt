@@ -3,35 +3,37 @@ use mathlib.Core.List.{List, [], _++_}
 use mathlib.Core.Path.{_≡_}
 use Prim.Native.Nat.{ℕ, zero, suc, _<_}
 use lib.ListN.{length, getD}
-use Rattle.sheet.specs.declared.Event.{Event}
-use Rattle.sheet.specs.Layout.{nodeCount, nodeByte, moduleCount, moduleOf}
-use Rattle.model.specs.Table.{moduleAt}
+use Rattle.sheet.specs.Sheet.{Sheet, nodeCount, nodeByte, moduleCount, moduleOf, outputOf}
+use Rattle.sheet.specs.WorkingOrder.{workingOrder}
+use Rattle.network.specs.Listing.{Record}
+use Rattle.model.specs.Store.{Store}
 use Rattle.model.specs.Fresh.{notShown}
-use Rattle.model.specs.State.{State, Ticked, orderedAt, delayedBelow, firstValue, tick}
+use Rattle.model.specs.State.{State, Loaded, Ticked, loadedOf, firstValue, tick}
 
--- the tables hold the modules in working order; before tick 0 nodes have their first values, modules have come to their outputs' initial values, and nothing is shown or pending
-pub record Loaded (s table delays : List ℕ) (st : State) : Type 0 where
-  pub table-size : length table ≡ 2048
-  pub delays-size : length delays ≡ 256
-  pub modules : (k : ℕ) → k < moduleCount s → moduleAt table delays k ≡ moduleOf s (orderedAt s k)
+-- the module at position k of the working order, as the sheet numbers it
+abbrev pub orderedAt : Sheet → ℕ → ℕ
+orderedAt S k = getD (workingOrder S) k 0
+
+-- before tick 0 nodes have their first values, modules have come to their outputs' initial values, and nothing is shown or pending
+pub record Begun (store : Store) (S : Sheet) (st : State store) : Type 0 where
   pub values-size : length (st .values) ≡ 256
-  pub values : (v : ℕ) → v < nodeCount s → getD (st .values) v 0 ≡ firstValue s v
+  pub values : (v : ℕ) → v < nodeCount S → getD (st .values) v 0 ≡ firstValue S v
   pub levels : (v : ℕ) → getD (st .values) v 0 < 4
   pub last-size : length (st .last) ≡ 256
-  pub last : (k : ℕ) → k < moduleCount s → getD (st .last) k 0 ≡ nodeByte s (moduleOf s (orderedAt s k) .output)
+  pub last : (k : ℕ) → k < moduleCount S → getD (st .last) k 0 ≡ nodeByte S (outputOf S (orderedAt S k))
   pub last-levels : (k : ℕ) → getD (st .last) k 0 < 4
   pub shown-size : length (st .shown) ≡ 256
   pub shown : (v : ℕ) → v < 256 → getD (st .shown) v 0 ≡ notShown
-  pub pending : st .pending ≡ []
+  pub pending : st .pending ≡ store .nothing
 
-abbrev pub tickOf : List ℕ → List ℕ → List ℕ → ℕ → ℕ → State → Ticked
-tickOf s table delays horizon t st = tick s table delays (delayedBelow s (moduleCount s)) (moduleCount s) horizon t st
+abbrev pub tickOf : (store : Store) → Sheet → ℕ → ℕ → State store → Ticked store
+tickOf store S horizon t st = tick store (loadedOf S) horizon t st
 
 -- what is kept before tick t, and the records of the ticks below it
-unfoldable pub stateAt : List ℕ → List ℕ → List ℕ → ℕ → State → ℕ → State
-stateAt s table delays horizon st zero = st
-stateAt s table delays horizon st (suc t) = tickOf s table delays horizon t (stateAt s table delays horizon st t) .state
+unfoldable pub stateAt : (store : Store) → Sheet → ℕ → State store → ℕ → State store
+stateAt store S horizon st zero = st
+stateAt store S horizon st (suc t) = tickOf store S horizon t (stateAt store S horizon st t) .state
 
-unfoldable pub recordsBelow : List ℕ → List ℕ → List ℕ → ℕ → State → ℕ → List Event
-recordsBelow s table delays horizon st zero = []
-recordsBelow s table delays horizon st (suc t) = recordsBelow s table delays horizon st t ++ tickOf s table delays horizon t (stateAt s table delays horizon st t) .records
+unfoldable pub recordsBelow : (store : Store) → Sheet → ℕ → State store → ℕ → List Record
+recordsBelow store S horizon st zero = []
+recordsBelow store S horizon st (suc t) = recordsBelow store S horizon st t ++ tickOf store S horizon t (stateAt store S horizon st t) .records

@@ -9,24 +9,25 @@ use native.Mathlib.Nat.{le-step, lt-suc-self, le-refl}
 use native.Mathlib.Omega.{arith}
 use Prim.Native.Nat.{ℕ, zero, suc, _<_, _≤_}
 use Rattle.level.specs.Choice.{if_then_else_}
-use Rattle.sheet.specs.declared.Event.{Event}
 use Rattle.sheet.specs.Enumerate.{each}
+use Rattle.sheet.specs.Limits.{pendingLimit}
 use Rattle.sheet.specs.Outcome.{finished, refused}
-use Rattle.format.specs.Sheet.{Sheet}
+use Rattle.sheet.specs.Sheet.{Sheet, nodeCount, moduleCount, outputOf}
+use Rattle.network.specs.Buffer.{room}
+use Rattle.network.specs.Listing.{Record, changes, recordOf, recordsAt, listing, pendingOf, pending}
+use Rattle.network.specs.Run.{TickRow, tickRows, wrote, firstTick, writtenOf}
+use Rattle.network.specs.Timeline.{Cells}
 use Rattle.sheet.proofs.Each.{each-same}
 use Rattle.sheet.proofs.Rows.{finished≢refused}
-use Rattle.network.specs.Parts.{nodeTotal, moduleTotal, outputOf}
-use Rattle.network.specs.Timeline.{Cells}
-use Rattle.network.specs.Listing.{changes, recordOf, recordsAt, listing, pendingOf, pending}
-use Rattle.network.specs.Run.{room, pendingLimit, TickRow, tickRows, wrote, firstTick, writtenOf}
-use Rattle.network.proofs.Wired.{Wired}
+use Rattle.network.proofs.Count.{count}
 use Rattle.network.proofs.Listed.{each-lengths}
 use Rattle.network.proofs.PendingCount.{changes-same, pending-of-same}
+use Rattle.network.proofs.Wired.{Wired}
 
 -- rows that answer alike: the same number, tick and test, and as many records left
 data Alike : List TickRow → List TickRow → Type 0 where
   no-row : Alike [] []
-  one-more : {n t : ℕ} {a b : Bool} {x y : List Event} {rs qs : List TickRow} → a ≡ b → length x ≡ length y → Alike rs qs
+  one-more : {n t : ℕ} {a b : Bool} {x y : List Record} {rs qs : List TickRow} → a ≡ b → length x ≡ length y → Alike rs qs
       → Alike (record { number = n; tick = t; met = a; left = x } ∷ rs) (record { number = n; tick = t; met = b; left = y } ∷ qs)
 
 alike-append : {rs qs rs′ qs′ : List TickRow} → Alike rs qs → Alike rs′ qs′ → Alike (rs ++ rs′) (qs ++ qs′)
@@ -38,7 +39,7 @@ unfolding each
 alike-each zero f h a = no-row
 alike-each (suc n) f h a = alike-append (alike-each n f h (λ t l. a t (le-step l))) (a n (lt-suc-self n))
 
-alike-answer : {rs qs : List TickRow} (x y : List Event) → Alike rs qs → length x ≡ length y → firstTick rs x .answer ≡ firstTick qs y .answer
+alike-answer : {rs qs : List TickRow} (x y : List Record) → Alike rs qs → length x ≡ length y → firstTick rs x .answer ≡ firstTick qs y .answer
 unfolding firstTick
 alike-answer x y no-row e = ap finished e
 alike-answer x y (one-more {n} {t} {b} {x = x′} {y = y′} {rs} {qs} m l r) e =
@@ -63,7 +64,7 @@ same-answer S P n q horizon bytes records waiting =
         (one-more (ap (ltb pendingLimit) (waiting t l)) (records (suc t) l) no-row)
 
 -- a finished run has written all
-all-written : (rs : List TickRow) (all : List Event) (count : ℕ) → firstTick rs all .answer ≡ finished count → firstTick rs all .records ≡ all
+all-written : (rs : List TickRow) (all : List Record) (count : ℕ) → firstTick rs all .answer ≡ finished count → firstTick rs all .records ≡ all
 unfolding firstTick
 all-written [] all count e = refl
 all-written (r ∷ rs) all count e = go (r .met) e (all-written rs all count)
@@ -88,8 +89,8 @@ records-same c q t (v ∷ vs) e = go (changes-same c q v v t (λ u l. e u v l (L
         → (if changes c v t then recordOf c t v ∷ recordsAt c t vs else recordsAt c t vs) ≡ (if changes q v t then recordOf q t v ∷ recordsAt q t vs else recordsAt q t vs)
     go p after = λ i. if p i then record { tick = t; node = v; value = e t v (le-refl t) (List·Memᴰ·head refl) i } ∷ after i else after i
 
-module _ (S : Sheet) (w : Wired S) (watched : (v : ℕ) → List·Memᴰ v (S .watched) → v < nodeTotal S) (c q : Cells) (horizon : ℕ)
-    (same : (t v : ℕ) → t < horizon → v < nodeTotal S → c t v ≡ q t v) where
+module _ (S : Sheet) (w : Wired S) (watched : (v : ℕ) → List·Memᴰ v (S .watched) → v < nodeCount S) (c q : Cells) (horizon : ℕ)
+    (same : (t v : ℕ) → t < horizon → v < nodeCount S → c t v ≡ q t v) where
   listing-local : (k : ℕ) → k ≤ horizon → listing S c k ≡ listing S q k
   listing-local k h =
       each-same k (λ t. recordsAt c t (S .watched)) (λ t. recordsAt q t (S .watched))
@@ -97,7 +98,7 @@ module _ (S : Sheet) (w : Wired S) (watched : (v : ℕ) → List·Memᴰ v (S .w
 
   pending-local : (t : ℕ) → length (pending S c horizon t) ≡ length (pending S q horizon t)
   pending-local t =
-      each-lengths (moduleTotal S) (pendingOf S c horizon t) (pendingOf S q horizon t)
+      each-lengths (moduleCount S) (pendingOf S c horizon t) (pendingOf S q horizon t)
       (λ m h. pending-of-same S S c q horizon t m m refl (λ u l. same u (outputOf S m) l (w .output-node m h)))
 
   pub written-local : (bytes : ℕ) → writtenOf S c horizon bytes ≡ writtenOf S q horizon bytes

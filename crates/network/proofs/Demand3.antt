@@ -1,158 +1,181 @@
 -- The mission, demand 3, whole: the cells of P, read through the permutation, satisfy N, so that they are N's; the rest is counted and sorted from the
 -- same cells. Beside it, every sheet that a check accepts has a valid order. Assumes nothing.
-use lib.ListN.{length}
+use lib.ListN.{getD}
+use mathlib.Core.Bool.{false}
 use mathlib.Core.List.{List, List·Memᴰ}
-use mathlib.Core.Path.{_≡_, sym, ap, _∙_, subst}
+use mathlib.Core.Path.{ap, refl, subst, sym, _≡_, _∙_}
 use native.Mathlib.Omega.{arith}
-use Prim.Native.Nat.{ℕ, _<_}
-use Rattle.sheet.specs.Layout.{nodeCount, moduleCount}
+use Prim.Native.Nat.{ℕ, _<_, _≤_}
+use Rattle.sheet.specs.Layout.{sheetOf}
 use Rattle.sheet.specs.Outcome.{finished}
 use Rattle.sheet.specs.Refusal.{checked}
-use Rattle.format.specs.Accepted.{Accepted}
-use Rattle.format.specs.Sheet.{Sheet, sheetOf}
-use Rattle.format.proofs.Accepted.{accepted}
-use Rattle.network.specs.Parts.{nodeTotal, moduleTotal}
-use Rattle.network.specs.Order.{Listed, ValidOrder, workingOrder}
-use Rattle.network.specs.Timeline.{Cells}
-use Rattle.network.specs.Satisfied.{Satisfied}
-use Rattle.network.specs.Listing.{listing, pending}
-use Rattle.network.specs.Run.{writtenOf, ran}
+use Rattle.sheet.specs.Sheet.{Sheet, moduleCount, moduleOf, nodeCount}
+use Rattle.sheet.specs.WorkingOrder.{workingOrder}
+use Rattle.sheet.specs.declared.Edition.{Edition}
+use Rattle.format.specs.Accepted.{Accepted, AcceptedIn, Known}
+use Rattle.format.specs.Encode.{Bytes}
+use Rattle.network.specs.Demand3.{RunsToHorizon, Same, ValidOrders, workedFrom}
+use Rattle.network.specs.Listing.{listing}
+use Rattle.network.specs.Order.{Listed, ValidOrder}
 use Rattle.network.specs.Renumbering.{Permutation, renumbered, renumberedBytes, renumberedListing}
-use Rattle.network.specs.Demand3.{RunsToHorizon, ValidOrders, Same, workedFrom}
-use Rattle.network.proofs.Parts.{node-total, module-total}
-use Rattle.network.proofs.Wired.{wired}
-use Rattle.network.proofs.Drivable.{drivable}
-use Rattle.network.proofs.Permuting.{to-once}
-use Rattle.network.proofs.Listing.{watched-rises, watched-bytes}
-use Rattle.network.proofs.RenumberedListing.{Rewatched, renumbered-listing, renumbered-length}
-use Rattle.network.proofs.RenumberedParts.{sheet-renumbered}
-use Rattle.network.proofs.RenumberedAccepted.{accepted-renumbered}
-use Rattle.network.proofs.PullBack.{pull-back}
-use Rattle.network.proofs.PendingCount.{pending-renumbered}
+use Rattle.network.specs.Run.{horizonOutside, ran, writtenOf}
+use Rattle.network.specs.RunConditions.{whole}
+use Rattle.network.specs.Timeline.{Cells, at}
+use Rattle.network.specs.Working.{worked}
+use Rattle.format.proofs.Accepted.{accepted, conversely}
+use Rattle.format.proofs.EncodeBytes.{encode-bytes}
+use Rattle.format.proofs.EncodePlaces.{encode-whole, read-encode}
 use Rattle.network.proofs.Answers.{same-answer, whole-listing}
+use Rattle.network.proofs.Fits.{fits, one-byte-each}
+use Rattle.network.proofs.Listing.{watched-bytes, watched-nodes}
+use Rattle.network.proofs.PendingCount.{pending-renumbered}
+use Rattle.network.proofs.Permuting.{to-once}
+use Rattle.network.proofs.PullBack.{pull-back}
+use Rattle.network.proofs.Renumbered.{module-count-renumbered, module-of-renumbered}
+use Rattle.network.proofs.RenumberedAccepted.{accepted-renumbered}
+use Rattle.network.proofs.RenumberedListing.{Rewatched, renumbered-length, renumbered-listing}
+use Rattle.network.proofs.Runs.{accepted-run, in-range, only, ran-sheet, ran-worked, satisfied}
+use Rattle.network.proofs.Wired.{wired}
 use Rattle.network.proofs.WorkingOrder.{working-order}
-use Rattle.network.proofs.Runs.{in-range, accepted-run, watched-nodes, satisfied, only, ran-worked}
 
--- a permutation of as many numbers
-abbrev as-many : {n m : ℕ} → n ≡ m → Permutation n → Permutation m
-as-many e π =
-    record {
-      to = π .to;
-      from = π .from;
-      to-below = subst (λ k. (v : ℕ) → v < k → π .to v < k) e (π .to-below);
-      from-below = subst (λ k. (v : ℕ) → v < k → π .from v < k) e (π .from-below);
-      from-to = subst (λ k. (v : ℕ) → v < k → π .from (π .to v) ≡ v) e (π .from-to);
-      to-from = subst (λ k. (v : ℕ) → v < k → π .to (π .from v) ≡ v) e (π .to-from);
-    }
+-- N and P, whose nodes are N's renumbered by to, with their cells
+record Agree (N P : Sheet) (to : ℕ → ℕ) (horizon bytes : ℕ) (n q : Cells) : Type 0 where
+  cells : (t v : ℕ) → t < horizon → v < nodeCount N → n t v ≡ q t (to v)
+  listings : listing P q horizon ≡ renumberedListing to (listing N n horizon)
+  answers : writtenOf P q horizon bytes .answer ≡ writtenOf N n horizon bytes .answer
 
-module _ (s : List ℕ) (acc : Accepted s) (π : Permutation (nodeCount s)) (order : List ℕ) (each-once : Listed (moduleCount s) order) where
-  abbrev N : Sheet
-  N = sheetOf s
+-- over sheets
+module _ (N : Sheet) (acc : Accepted N) (π : Permutation (nodeCount N)) (order : List ℕ) (each-once : Listed (moduleCount N) order) where
+  abbrev P : Sheet
+  P = renumbered N (π .to) (π .from) order
 
-  abbrev p : List ℕ
-  p = renumberedBytes s π order
+  acc-P : Accepted P
+  acc-P = accepted-renumbered N acc π order each-once
 
-  acc-P : Accepted p
-  acc-P = accepted-renumbered s acc π order each-once
-
-  is-renumbered : sheetOf p ≡ renumbered N (π .to) (π .from) order
-  is-renumbered = sheet-renumbered s acc π order each-once
-
-  -- the same over the sheet that stands in the bytes
-  abbrev numbering : Permutation (nodeTotal N)
-  numbering = as-many (sym (node-total s)) π
-
-  positions : Listed (moduleTotal N) order
-  positions = rw (module-total s) each-once
-
-  rewatched : Rewatched N (sheetOf p) (π .to)
+  rewatched : Rewatched N P (π .to)
   unfolding renumbered
   rewatched =
       record {
-        rises = watched-rises s acc;
-        bytes = watched-bytes s acc;
-        new-bytes = λ v m. omega (arith, π .to-below v (rw (node-total s) at (watched-nodes s acc v m)), acc .nodes);
-        apart = λ u v m k. to-once π u v (rw (node-total s) at (watched-nodes s acc u m)) (rw (node-total s) at (watched-nodes s acc v k));
-        sorted = ap (λ S. S .watched) is-renumbered;
+        rises = acc .watched-rise;
+        bytes = watched-bytes N acc;
+        new-bytes = λ v m. omega (arith, π .to-below v (watched-nodes N acc v m), acc .nodes);
+        apart = λ u v m k. to-once π u v (watched-nodes N acc u m) (watched-nodes N acc v k);
+        sorted = refl;
       }
 
-  -- the cells of P, read through the permutation, satisfy N
-  pulled-back : (horizon : ℕ) (q : Cells) → Satisfied (sheetOf p) horizon q → Satisfied N horizon (λ t v. q t (π .to v))
-  pulled-back horizon q sat = pull-back N numbering order positions (wired s acc) (drivable s acc) horizon q (subst (λ S. Satisfied S horizon q) is-renumbered sat)
+  agree : (horizon bytes : ℕ) (ordersN ordersP : ℕ → List ℕ) → ValidOrders N horizon ordersN → ValidOrders P horizon ordersP
+      → Agree N P (π .to) horizon bytes (worked N ordersN horizon) (worked P ordersP horizon)
+  agree horizon bytes ordersN ordersP valid-N valid-P =
+      record {
+        cells = same;
+        listings = renumbered-listing N P (π .to) rewatched n q horizon watched-same;
+        answers =
+            same-answer N P n q horizon bytes (renumbered-length N P (π .to) rewatched n q horizon watched-same)
+            (λ t h. pending-renumbered N π order each-once (wired N acc) n q horizon same t);
+      }
+    where
+      n : Cells
+      n = worked N ordersN horizon
 
-  -- what the same cells give
-  module _ (horizon : ℕ) (n q : Cells) (same : (t v : ℕ) → t < horizon → v < nodeCount s → n t v ≡ q t (π .to v)) where
-    watched-same : (t v : ℕ) → t < horizon → List·Memᴰ v (N .watched) → n t v ≡ q t (π .to v)
-    watched-same t v h m = same t v h (rw (node-total s) at (watched-nodes s acc v m))
+      q : Cells
+      q = worked P ordersP horizon
 
-    listing-renumbered : listing (sheetOf p) q horizon ≡ renumberedListing (π .to) (listing N n horizon)
-    listing-renumbered = renumbered-listing N (sheetOf p) (π .to) rewatched n q horizon watched-same
+      same : (t v : ℕ) → t < horizon → v < nodeCount N → n t v ≡ q t (π .to v)
+      same t v h l =
+          sym (only N acc horizon ordersN valid-N (λ t v. q t (π .to v)) (pull-back N acc π order each-once horizon q (satisfied P acc-P horizon ordersP valid-P)) t v h l)
 
-    pending-as-many : (t : ℕ) → length (pending (sheetOf p) q horizon t) ≡ length (pending N n horizon t)
-    pending-as-many t =
-        ap (λ S. length (pending S q horizon t)) is-renumbered
-        ∙ pending-renumbered N numbering order positions (wired s acc) n q horizon (λ t v h l. same t v h (rw (node-total s) at l)) t
+      watched-same : (t v : ℕ) → t < horizon → List·Memᴰ v (N .watched) → n t v ≡ q t (π .to v)
+      watched-same t v h m = same t v h (watched-nodes N acc v m)
 
-    answer-renumbered : (bytes : ℕ) → writtenOf (sheetOf p) q horizon bytes .answer ≡ writtenOf N n horizon bytes .answer
-    answer-renumbered bytes =
-        same-answer N (sheetOf p) n q horizon bytes (renumbered-length N (sheetOf p) (π .to) rewatched n q horizon watched-same) (λ t h. pending-as-many t)
+-- over bytes: P's are those that the renumbered sheet is written as
+module _ {E : Edition} (known : Known E) (s : List ℕ) (ok : AcceptedIn E s) (π : Permutation (nodeCount (sheetOf E s))) (order : List ℕ) (each-once : Listed (moduleCount (sheetOf E s)) order) where
+  abbrev p : List ℕ
+  p = renumberedBytes E s π order
 
-pub demand-3 : (s : List ℕ) (horizon bytes : ℕ) → RunsToHorizon s horizon bytes
-    → (π : Permutation (nodeCount s)) (order : List ℕ) → Listed (moduleCount s) order
-    → (ordersN ordersP : ℕ → List ℕ) → ValidOrders s horizon ordersN → ValidOrders (renumberedBytes s π order) horizon ordersP
-    → Same s (renumberedBytes s π order) (π .to) horizon bytes (workedFrom s horizon ordersN) (workedFrom (renumberedBytes s π order) horizon ordersP)
-demand-3 s horizon bytes runs π order each-once ordersN ordersP valid-N valid-P =
+  abbrev Q : Sheet
+  Q = renumbered (sheetOf E s) (π .to) (π .from) order
+
+  accepted-sheet : Accepted Q
+  accepted-sheet = accepted-renumbered (sheetOf E s) (ok .sheet) π order each-once
+
+  pub sheet-renumbered : sheetOf E p ≡ Q
+  sheet-renumbered = read-encode known Q (fits Q accepted-sheet)
+
+  pub bytes-renumbered : Bytes p
+  bytes-renumbered = encode-bytes E Q (one-byte-each Q accepted-sheet)
+
+  pub accepted-bytes : AcceptedIn E p
+  accepted-bytes = record { sheet = rw sheet-renumbered accepted-sheet; kinds = rw sheet-renumbered kinds; whole = encode-whole known Q (fits Q accepted-sheet) }
+    where
+      kinds : (k : ℕ) → k < moduleCount Q → moduleOf Q k .kind ≤ E .greatest
+      kinds k h =
+          let l = rw (module-count-renumbered (sheetOf E s) π order each-once) at h in
+          subst (λ m. m .kind ≤ E .greatest) (sym (module-of-renumbered (sheetOf E s) π order each-once k l)) (ok .kinds (getD order k 0) (each-once .known k l))
+
+  pub checked-renumbered : checked E p ≡ finished 0
+  checked-renumbered = conversely E known p accepted-bytes
+
+pub demand-3 : {E : Edition} → Known E → (s : List ℕ) (horizon bytes : ℕ) → RunsToHorizon E s horizon bytes
+    → (π : Permutation (nodeCount (sheetOf E s))) (order : List ℕ) → Listed (moduleCount (sheetOf E s)) order
+    → (ordersN ordersP : ℕ → List ℕ) → ValidOrders (sheetOf E s) horizon ordersN → ValidOrders (sheetOf E (renumberedBytes E s π order)) horizon ordersP
+    → Same E s (renumberedBytes E s π order) (π .to) horizon bytes (workedFrom E s horizon ordersN) (workedFrom E (renumberedBytes E s π order) horizon ordersP)
+demand-3 {E} known s horizon bytes runs π order each-once ordersN ordersP valid-N valid-P =
     record {
-      same-cells = same-cells;
+      same-cells = both .cells;
       listing-of-N = listing-of-N;
       listing-of-P = listing-of-P;
-      same-answer = ap (λ w. w .answer) run-of-P ∙ answers ∙ ap (λ w. w .answer) (sym run-of-N);
-      renumbered-listing = listing-of-P ∙ listing-renumbered s acc π order each-once horizon n q same-cells ∙ ap (renumberedListing (π .to)) (sym listing-of-N);
-      satisfied-by-N = satisfied s acc horizon ordersN valid-N;
-      satisfied-by-P = satisfied-P;
-      only-N = only s acc horizon ordersN valid-N;
-      only-P = only p′ accepted-P horizon ordersP valid-P;
+      same-answer = ap (λ w. w .answer) run-of-P ∙ both .answers ∙ ap (λ w. w .answer) (sym run-of-N);
+      renumbered-listing = listing-of-P ∙ both .listings ∙ ap (renumberedListing (π .to)) (sym listing-of-N);
+      satisfied-by-N = satisfied N (ok .sheet) horizon ordersN valid-N;
+      satisfied-by-P = satisfied P′ (ok-P .sheet) horizon ordersP valid-P;
+      only-N = only N (ok .sheet) horizon ordersN valid-N;
+      only-P = only P′ (ok-P .sheet) horizon ordersP valid-P;
     }
   where
     p′ : List ℕ
-    p′ = renumberedBytes s π order
+    p′ = renumberedBytes E s π order
+
+    N : Sheet
+    N = sheetOf E s
+
+    P′ : Sheet
+    P′ = sheetOf E p′
 
     n : Cells
-    n = workedFrom s horizon ordersN
+    n = workedFrom E s horizon ordersN
 
     q : Cells
-    q = workedFrom p′ horizon ordersP
+    q = workedFrom E p′ horizon ordersP
 
-    acc : Accepted s
-    acc = accepted-run s horizon bytes runs
+    range : horizonOutside horizon ≡ false
+    range = in-range E s horizon bytes runs
 
-    accepted-P : Accepted p′
-    accepted-P = accepted-renumbered s acc π order each-once
+    ok : AcceptedIn E s
+    ok = accepted E known s (accepted-run E s horizon bytes runs)
 
-    satisfied-P : Satisfied (sheetOf p′) horizon q
-    satisfied-P = satisfied p′ accepted-P horizon ordersP valid-P
+    ok-P : AcceptedIn E p′
+    ok-P = accepted-bytes known s ok π order each-once
 
-    same-cells : (t v : ℕ) → t < horizon → v < nodeCount s → n t v ≡ q t (π .to v)
-    same-cells t v h l = sym (only s acc horizon ordersN valid-N (λ t v. q t (π .to v)) (pulled-back s acc π order each-once horizon q satisfied-P) t v h l)
+    both : Agree N P′ (π .to) horizon bytes n q
+    both =
+        subst (λ P. (orders : ℕ → List ℕ) → ValidOrders P horizon orders → Agree N P (π .to) horizon bytes n (worked P orders horizon))
+        (sym (sheet-renumbered known s ok π order each-once)) (λ orders. agree N (ok .sheet) π order each-once horizon bytes ordersN orders valid-N) ordersP valid-P
 
-    run-of-N : ran s horizon bytes ≡ writtenOf (sheetOf s) n horizon bytes
-    run-of-N = ran-worked s acc horizon ordersN valid-N (in-range s horizon bytes runs) bytes
+    run-of-N : ran E s horizon bytes ≡ writtenOf N n horizon bytes
+    run-of-N = ran-sheet E s horizon bytes range (accepted-run E s horizon bytes runs) ∙ ran-worked N (ok .sheet) horizon ordersN valid-N bytes
 
-    run-of-P : ran p′ horizon bytes ≡ writtenOf (sheetOf p′) q horizon bytes
-    run-of-P = ran-worked p′ accepted-P horizon ordersP valid-P (in-range s horizon bytes runs) bytes
+    run-of-P : ran E p′ horizon bytes ≡ writtenOf P′ q horizon bytes
+    run-of-P = ran-sheet E p′ horizon bytes range (conversely E known p′ ok-P) ∙ ran-worked P′ (ok-P .sheet) horizon ordersP valid-P bytes
 
-    answers : writtenOf (sheetOf p′) q horizon bytes .answer ≡ writtenOf (sheetOf s) n horizon bytes .answer
-    answers = answer-renumbered s acc π order each-once horizon n q same-cells bytes
-
-    finishes : writtenOf (sheetOf s) n horizon bytes .answer ≡ finished (runs .count)
+    finishes : writtenOf N n horizon bytes .answer ≡ finished (runs .count)
     finishes = ap (λ w. w .answer) (sym run-of-N) ∙ runs .answer
 
-    listing-of-N : ran s horizon bytes .records ≡ listing (sheetOf s) n horizon
-    listing-of-N = ap (λ w. w .records) run-of-N ∙ whole-listing (sheetOf s) n horizon bytes (runs .count) finishes
+    listing-of-N : ran E s horizon bytes .records ≡ listing N n horizon
+    listing-of-N = ap (λ w. w .records) run-of-N ∙ whole-listing N n horizon bytes (runs .count) finishes
 
-    listing-of-P : ran p′ horizon bytes .records ≡ listing (sheetOf p′) q horizon
-    listing-of-P = ap (λ w. w .records) run-of-P ∙ whole-listing (sheetOf p′) q horizon bytes (runs .count) (answers ∙ finishes)
+    listing-of-P : ran E p′ horizon bytes .records ≡ listing P′ q horizon
+    listing-of-P = ap (λ w. w .records) run-of-P ∙ whole-listing P′ q horizon bytes (runs .count) (both .answers ∙ finishes)
 
 -- such orders exist: the working order is one
-pub valid-order-exists : (s : List ℕ) → checked s ≡ finished 0 → (order : List ℕ) × ValidOrder (sheetOf s) order
-valid-order-exists s c = (workingOrder s, working-order s (accepted s c))
+pub valid-order-exists : {E : Edition} → Known E → (s : List ℕ) → checked E s ≡ finished 0 → (order : List ℕ) × ValidOrder (sheetOf E s) order
+valid-order-exists {E} known s c = (workingOrder (sheetOf E s), working-order (sheetOf E s) (accepted E known s c .sheet))

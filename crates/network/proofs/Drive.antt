@@ -1,6 +1,6 @@
 -- An input's cell is the value of its latest event with a tick at most t, and X where there is none. Assumes nothing.
-use borrow.Author.Tests.{ne-eqb}
 use lib.Dec.{eqb}
+use borrow.Author.Tests.{ne-eqb}
 use mathlib.Core.Bool.{Bool, true, false, _&&_}
 use mathlib.Core.List.{List, [], _∷_, _++_, List·Memᴰ, List·Memᴰ·head, List·Memᴰ·tail, List·Memᴰ·not-nil, List·Memᴰ·cases-cons}
 use mathlib.Core.Logic.{_⊎_, inl, inr}
@@ -9,16 +9,15 @@ use native.Mathlib.Decide.{ℕ-discrete}
 use native.Mathlib.Omega.{arith}
 use Prim.Native.Nat.{ℕ, zero, suc, _≤_, _<_}
 use Rattle.level.specs.Choice.{if_then_else_}
-use Rattle.level.specs.Level.{unknown}
+use Rattle.level.specs.Level.{unknown, none}
+use Rattle.sheet.specs.Sheet.{eventCount, eventOf, Sheet, noEvent}
 use Rattle.sheet.specs.declared.Event.{Event}
-use Rattle.sheet.specs.Layout.{eventCount, eventOf}
 use Rattle.format.specs.Accepted.{Accepted}
-use Rattle.format.specs.Sheet.{sheetOf}
-use Rattle.format.proofs.Listed.{listed-all}
-use Rattle.sheet.proofs.Each.{each-mem}
-use Rattle.sheet.proofs.Tests.{Tells, tells-eq, tells-and, fails}
 use Rattle.network.specs.Timeline.{given, driveCell}
+use Rattle.sheet.proofs.Listed.{getD-mem}
+use Rattle.sheet.proofs.Tests.{Tells, tells-eq, tells-and, fails}
 use Rattle.network.proofs.Drivable.{drivable}
+use Rattle.network.proofs.Rising.{members-all}
 
 -- an event at a tick on a node
 On : ℕ → ℕ → Event → Type 0
@@ -78,21 +77,21 @@ module _ (drive : List Event) (v : ℕ) where
       ∙ never-given t (λ e m n h. none e m n (omega arith))
 
 -- of an accepted sheet, by the events' numbers
-module _ (s : List ℕ) (v t : ℕ) where
-  pub input-cell : Accepted s → (k : ℕ) → k < eventCount s → eventOf s k .node ≡ v → eventOf s k .tick ≤ t
-      → ((j : ℕ) → j < eventCount s → eventOf s j .node ≡ v → eventOf s k .tick < eventOf s j .tick → eventOf s j .tick ≤ t → ⊥)
-      → driveCell (sheetOf s .drive) v t ≡ eventOf s k .value
+module _ (S : Sheet) (v t : ℕ) where
+  pub input-cell : Accepted S → (k : ℕ) → k < eventCount S → eventOf S k .node ≡ v → eventOf S k .tick ≤ t
+      → ((j : ℕ) → j < eventCount S → eventOf S j .node ≡ v → eventOf S k .tick < eventOf S j .tick → eventOf S j .tick ≤ t → ⊥)
+      → driveCell (S .drive) v t ≡ eventOf S k .value
   input-cell acc k h n b none =
-      latest-value (sheetOf s .drive) v (drivable s acc .one-value) t (eventOf s k)
+      latest-value (S .drive) v (drivable S acc .one-value) t (eventOf S k)
       (record {
-        listed = each-mem (eventCount s) (λ i. eventOf s i ∷ []) .1 (k, h, List·Memᴰ·head refl);
+        listed = getD-mem (S .drive) k noEvent h;
         node = n;
         tick = b;
-        none-later = listed-all (λ f. f .node ≡ v → eventOf s k .tick < f .tick → f .tick ≤ t → ⊥) (eventCount s) (eventOf s) none;
+        none-later = members-all (λ f. f .node ≡ v → eventOf S k .tick < f .tick → f .tick ≤ t → ⊥) (S .drive) noEvent none;
       })
 
-  pub undriven-cell : ((j : ℕ) → j < eventCount s → eventOf s j .node ≡ v → eventOf s j .tick ≤ t → ⊥) → driveCell (sheetOf s .drive) v t ≡ unknown
-  undriven-cell none = never-given (sheetOf s .drive) v t (listed-all (λ e. e .node ≡ v → e .tick ≤ t → ⊥) (eventCount s) (eventOf s) none)
+  pub undriven-cell : ((j : ℕ) → j < eventCount S → eventOf S j .node ≡ v → eventOf S j .tick ≤ t → ⊥) → driveCell (S .drive) v t ≡ unknown
+  undriven-cell none = never-given (S .drive) v t (members-all (λ e. e .node ≡ v → e .tick ≤ t → ⊥) (S .drive) noEvent none)
 
 -- An event has no effect on cells before its tick: so events at or past the horizon have none.
 module _ (earlier later : List Event) (e : Event) (v : ℕ) where

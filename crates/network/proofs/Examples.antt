@@ -1,47 +1,48 @@
 -- The starred examples of document 01, as one table, and its worked run whole. Assumes nothing.
+use lib.ListN.{replicate}
 use mathlib.Core.List.{[], _∷_}
 use mathlib.Core.Path.{_≡_, refl}
 use Prim.Native.Nat.{ℕ}
 use Rattle.level.specs.Examples.{Hold}
-use Rattle.level.proofs.Examples.{computed}
-use lib.ListN.{replicate}
-use Rattle.sheet.specs.declared.Event.{Event}
 use Rattle.sheet.specs.Enumerate.{anyBelow, each}
+use Rattle.sheet.specs.Layout.{firstEdition, sheetOf}
 use Rattle.sheet.specs.Loop.{leadsOver}
 use Rattle.sheet.specs.Outcome.{finished, refused}
 use Rattle.sheet.specs.Refusal.{notAboveEvent, notAboveWatched, bytesRows, rows, first, checked}
+use Rattle.sheet.specs.WorkingOrder.{leadingTo, workingOrder}
 use Rattle.format.specs.Encode.{allBytes}
+use Rattle.network.specs.Buffer.{bufferAfter}
 use Rattle.network.specs.Examples.{workedSheet, memorySheet, examples}
+use Rattle.network.specs.Listing.{recordsAt, Record}
+use Rattle.network.specs.Run.{wrote, firstTick, writtenOf, ran}
 use Rattle.network.specs.Timeline.{given, driveCell, latest}
 use Rattle.network.specs.Working.{unworked, work, workAll, worked}
-use Rattle.network.specs.Order.{leadingTo, workingOrder}
-use Rattle.network.specs.Listing.{recordsAt}
-use Rattle.network.specs.Run.{wrote, firstTick, writtenOf, ran, bufferAfter}
+use Rattle.level.proofs.Examples.{computed}
 
 pub examples-hold : Hold examples
-unfolding workingOrder leadingTo leadsOver anyBelow each given driveCell latest unworked work workAll worked
+unfolding sheetOf workingOrder leadingTo leadsOver anyBelow each given driveCell latest unworked work workAll worked
 examples-hold = computed _ tt
 
 -- both sheets are accepted
-pub accepted-examples : (checked workedSheet ≡ finished 0) × (checked memorySheet ≡ finished 0)
-unfolding checked rows bytesRows first notAboveEvent notAboveWatched leadsOver anyBelow each
+pub accepted-examples : (checked firstEdition workedSheet ≡ finished 0) × (checked firstEdition memorySheet ≡ finished 0)
+unfolding sheetOf checked rows bytesRows first notAboveEvent notAboveWatched leadsOver anyBelow each
 accepted-examples = (refl, refl)
 
-abbrev listed : ℕ → ℕ → ℕ → Event
+abbrev listed : ℕ → ℕ → ℕ → Record
 listed t v x = record { tick = t; node = v; value = x }
 
 -- the worked run, from its bytes: a buffer of 36 bytes takes its six records
-pub worked-run : ran workedSheet 12 36 ≡ wrote (finished 6) (listed 0 0 0 ∷ listed 0 1 2 ∷ listed 3 1 1 ∷ listed 5 0 1 ∷ listed 8 1 0 ∷ listed 11 1 1 ∷ [])
-unfolding checked rows bytesRows first notAboveEvent notAboveWatched workingOrder leadingTo leadsOver anyBelow each given driveCell latest unworked work workAll worked recordsAt firstTick writtenOf ran
+pub worked-run : ran firstEdition workedSheet 12 36 ≡ wrote (finished 6) (listed 0 0 0 ∷ listed 0 1 2 ∷ listed 3 1 1 ∷ listed 5 0 1 ∷ listed 8 1 0 ∷ listed 11 1 1 ∷ [])
+unfolding sheetOf checked rows bytesRows first notAboveEvent notAboveWatched workingOrder leadingTo leadsOver anyBelow each given driveCell latest unworked work workAll worked recordsAt firstTick writtenOf ran
 worked-run = refl
 
 -- 35 give refusal 19 at tick 11 with 5 records
-pub short-run : ran workedSheet 12 35 ≡ wrote (refused 19 11 5) (listed 0 0 0 ∷ listed 0 1 2 ∷ listed 3 1 1 ∷ listed 5 0 1 ∷ listed 8 1 0 ∷ [])
-unfolding checked rows bytesRows first notAboveEvent notAboveWatched workingOrder leadingTo leadsOver anyBelow each given driveCell latest unworked work workAll worked recordsAt firstTick writtenOf ran
+pub short-run : ran firstEdition workedSheet 12 35 ≡ wrote (refused 19 11 5) (listed 0 0 0 ∷ listed 0 1 2 ∷ listed 3 1 1 ∷ listed 5 0 1 ∷ listed 8 1 0 ∷ [])
+unfolding sheetOf checked rows bytesRows first notAboveEvent notAboveWatched workingOrder leadingTo leadsOver anyBelow each given driveCell latest unworked work workAll worked recordsAt firstTick writtenOf ran
 short-run = refl
 
 -- and in a buffer of 38 bytes, each 99 before, the six records' bytes stand first and the last two bytes stay
-pub worked-buffer : bufferAfter (ran workedSheet 12 38 .records) (replicate 38 99)
+pub worked-buffer : bufferAfter (ran firstEdition workedSheet 12 38 .records) (replicate 38 99)
     ≡ 0 ∷ 0 ∷ 0 ∷ 0 ∷ 0 ∷ 0
     ∷ 0 ∷ 0 ∷ 0 ∷ 0 ∷ 1 ∷ 2
     ∷ 3 ∷ 0 ∷ 0 ∷ 0 ∷ 1 ∷ 1
@@ -49,5 +50,5 @@ pub worked-buffer : bufferAfter (ran workedSheet 12 38 .records) (replicate 38 9
     ∷ 8 ∷ 0 ∷ 0 ∷ 0 ∷ 1 ∷ 0
     ∷ 11 ∷ 0 ∷ 0 ∷ 0 ∷ 1 ∷ 1
     ∷ 99 ∷ 99 ∷ []
-unfolding checked rows bytesRows first notAboveEvent notAboveWatched workingOrder leadingTo leadsOver anyBelow each given driveCell latest unworked work workAll worked recordsAt firstTick writtenOf ran bufferAfter allBytes
+unfolding sheetOf checked rows bytesRows first notAboveEvent notAboveWatched workingOrder leadingTo leadsOver anyBelow each given driveCell latest unworked work workAll worked recordsAt firstTick writtenOf ran bufferAfter allBytes
 worked-buffer = refl

@@ -6,10 +6,11 @@ use mathlib.Core.List.{List, [], _∷_, List·Memᴰ, List·Memᴰ·head, List·
 use mathlib.Core.Logic.{_↔_}
 use mathlib.Core.Path.{_≡_, refl, sym, ap, _∙_}
 use Prim.Native.Nat.{ℕ, zero, suc}
-use Rattle.level.specs.Level.{unknown}
-use Rattle.sheet.proofs.Tests.{Tells, tells-eq, tells-and, fails}
+use Rattle.level.specs.Examples.{is}
+use Rattle.level.specs.Level.{unknown, none}
 use Rattle.sheet.specs.declared.Event.{Event}
 use Rattle.network.specs.Timeline.{given, driveCell}
+use Rattle.sheet.proofs.Tests.{Tells, tells-eq, tells-and, fails}
 
 -- a list has an event at a tick on a node with a value
 pub record Gives (l : List Event) (v t x : ℕ) : Type 0 where

@@ -2,7 +2,6 @@
 pub mod Examples
 pub mod Sensitivity
 pub mod Passing
-pub mod Parts
 pub mod Rising
 pub mod Sort
 pub mod Wired
@@ -11,8 +10,7 @@ pub mod RenumberedModule
 pub mod Listed
 pub mod Listing
 pub mod RenumberedListing
-pub mod RenumberedFits
-pub mod RenumberedParts
+pub mod Fits
 pub mod Equation
 pub mod Ordered
 pub mod Existence

@@ -1,8 +1,8 @@
 -- The numbers below a bound, each once: a list of so many numbers below the bound with no two equal has every one of them, and what is put in a
 -- row for each is as long in any order. By induction on the bound, each time with the last number's in the place of the greatest. Assumes nothing.
-use borrow.Author.Tests.{eq-eqb, ne-eqb}
 use lib.Dec.{eqb}
 use lib.ListN.{length, getD, length-append}
+use borrow.Author.Tests.{eq-eqb, ne-eqb}
 use mathlib.Core.List.{List}
 use mathlib.Core.Path.{_≡_, refl, sym, ap, _∙_}
 use native.Mathlib.Decide.{ℕ-discrete}

@@ -5,27 +5,24 @@ use mathlib.Core.Bool.{Bool, true, false}
 use mathlib.Core.List.{List, [], _∷_, List·Memᴰ, List·Memᴰ·head, List·Memᴰ·tail, List·Memᴰ·not-nil, List·Memᴰ·cases-cons}
 use mathlib.Core.Logic.{_↔_, _⊎_, inl, inr}
 use mathlib.Core.Path.{_≡_, refl, sym, ap, _∙_, subst}
-use Prim.Native.Nat.{ℕ, _<_}
 use native.Mathlib.Omega.{arith}
+use Prim.Native.Nat.{ℕ, _<_}
 use Rattle.level.specs.Choice.{if_then_else_}
-use Rattle.sheet.specs.declared.Event.{Event}
-use Rattle.sheet.specs.Refusal.{key}
-use Rattle.sheet.specs.Layout.{watchedCount, watchedNode}
+use Rattle.sheet.specs.Sheet.{Sheet, nodeCount}
 use Rattle.format.specs.Accepted.{Accepted}
-use Rattle.format.specs.Sheet.{Sheet, sheetOf}
-use Rattle.format.proofs.Listed.{length-listed, getD-listed, listed-all}
-use Rattle.sheet.proofs.Each.{each-mem}
-use Rattle.network.specs.Timeline.{Cells}
-use Rattle.network.specs.Listing.{changes, recordOf, recordsAt, listing}
 use Rattle.network.specs.Demand2.{Shown, Lists}
-use Rattle.network.proofs.Rising.{Pairs, Up, pairs-of, pairs-at, pairs-each, rising-unique}
+use Rattle.network.specs.Listing.{Record, recordKey, changes, recordOf, recordsAt, listing}
+use Rattle.network.specs.Timeline.{Cells}
+use Rattle.level.proofs.Computed.{below}
+use Rattle.sheet.proofs.Each.{each-mem}
+use Rattle.network.proofs.Rising.{Pairs, Up, pairs-of, pairs-at, pairs-each, rising-unique, members-all}
 
 module _ (c : Cells) (t : ℕ) where
   -- a record of the tick: of one of these nodes, which changes there
-  abbrev Recorded : Event → List ℕ → Type 0
+  abbrev Recorded : Record → List ℕ → Type 0
   Recorded r vs = (v : ℕ) × List·Memᴰ v vs × T (changes c v t) × (r ≡ recordOf c t v)
 
-  records-mem : {r : Event} (vs : List ℕ) → List·Memᴰ r (recordsAt c t vs) ↔ Recorded r vs
+  records-mem : {r : Record} (vs : List ℕ) → List·Memᴰ r (recordsAt c t vs) ↔ Recorded r vs
   unfolding recordsAt
   records-mem [] = (λ m. absurd (List·Memᴰ·not-nil m), λ h. absurd (List·Memᴰ·not-nil (h .1)))
   records-mem {r} (v ∷ vs) = (from (changes c v t) refl (records-mem vs .0), λ h. to (changes c v t) refl (records-mem vs .1) h (List·Memᴰ·cases-cons (h .1)))
@@ -49,17 +46,17 @@ module _ (c : Cells) (t : ℕ) where
       to true e f h (inr m) = List·Memᴰ·tail (f (h .0, m, h .2, h .3))
       to false e f h (inr m) = f (h .0, m, h .2, h .3)
 
-  records-rise : (vs : List ℕ) → Pairs (Up (λ v. v)) vs → Pairs (Up key) (recordsAt c t vs)
+  records-rise : (vs : List ℕ) → Pairs (Up (λ v. v)) vs → Pairs (Up recordKey) (recordsAt c t vs)
   unfolding recordsAt
   records-rise [] p = tt
   records-rise (v ∷ vs) p = at (changes c v t) (records-rise vs (p .1))
     where
-      at : (b : Bool) → Pairs (Up key) (recordsAt c t vs) → Pairs (Up key) (if b then recordOf c t v ∷ recordsAt c t vs else recordsAt c t vs)
-      at true q = (λ r m. let h = records-mem vs .0 m in let l = p .0 (h .0) (h .1) in let k = ap key (h .3) in omega arith, q)
+      at : (b : Bool) → Pairs (Up recordKey) (recordsAt c t vs) → Pairs (Up recordKey) (if b then recordOf c t v ∷ recordsAt c t vs else recordsAt c t vs)
+      at true q = (λ r m. let h = records-mem vs .0 m in let l = p .0 (h .0) (h .1) in let k = ap recordKey (h .3) in omega arith, q)
       at false q = q
 
 module _ (S : Sheet) (c : Cells) (horizon : ℕ) where
-  listed-shown : (r : Event) → List·Memᴰ r (listing S c horizon) ↔ Shown S c horizon r
+  listed-shown : (r : Record) → List·Memᴰ r (listing S c horizon) ↔ Shown S c horizon r
   listed-shown r = (shown, all)
     where
       shown : List·Memᴰ r (listing S c horizon) → Shown S c horizon r
@@ -73,38 +70,36 @@ module _ (S : Sheet) (c : Cells) (horizon : ℕ) where
           each-mem horizon (λ t. recordsAt c t (S .watched)) .1
           (r .tick, h .below, records-mem c (r .tick) (S .watched) .1 (r .node, h .watched, h .change, λ i. record { tick = r .tick; node = r .node; value = h .value i }))
 
-  -- nodes are bytes, so a later tick has the greater key
+  -- nodes are bytes, so a later tick has the greater recordKey
   pub lists : ((j k : ℕ) → j < k → k < length (S .watched) → getD (S .watched) j 0 < getD (S .watched) k 0)
       → ((v : ℕ) → List·Memᴰ v (S .watched) → v < 256) → Lists S c horizon (listing S c horizon)
   lists rises bytes =
       record {
         shown = λ r. listed-shown r .0;
         all = λ r. listed-shown r .1;
-        rise = pairs-at (Up key) (listing S c horizon) (pairs-each (Up key) horizon (λ t. recordsAt c t (S .watched)) (λ t. records-rise c t (S .watched) (pairs-of (Up (λ v. v)) (S .watched) 0 rises)) later);
+        rise = pairs-at (Up recordKey) (listing S c horizon) (pairs-each (Up recordKey) horizon (λ t. recordsAt c t (S .watched)) (λ t. records-rise c t (S .watched) (pairs-of (Up (λ v. v)) (S .watched) 0 rises)) later);
       }
     where
-      later : (t u : ℕ) → t < u → (a b : Event) → List·Memᴰ a (recordsAt c t (S .watched)) → List·Memᴰ b (recordsAt c u (S .watched)) → key a < key b
+      later : (t u : ℕ) → t < u → (a b : Record) → List·Memᴰ a (recordsAt c t (S .watched)) → List·Memᴰ b (recordsAt c u (S .watched)) → recordKey a < recordKey b
       later t u l a b m n =
           let h = records-mem c t (S .watched) .0 m in
           let g = records-mem c u (S .watched) .0 n in
           let small = bytes (h .0) (h .1) in
-          let i = ap key (h .3) in
-          let j = ap key (g .3) in
+          let i = ap recordKey (h .3) in
+          let j = ap recordKey (g .3) in
           omega arith
 
   -- no other list has these records and rises
-  pub lists-unique : (l m : List Event) → Lists S c horizon l → Lists S c horizon m → l ≡ m
-  lists-unique l m L M = rising-unique key l m (L .rise) (M .rise) (λ r. (λ i. M .all r (L .shown r i), λ i. L .all r (M .shown r i)))
+  pub lists-unique : (l m : List Record) → Lists S c horizon l → Lists S c horizon m → l ≡ m
+  lists-unique l m L M = rising-unique recordKey l m (L .rise) (M .rise) (λ r. (λ i. M .all r (L .shown r i), λ i. L .all r (M .shown r i)))
 
--- the sheet of accepted bytes
-module _ (s : List ℕ) (a : Accepted s) where
-  pub watched-rises : (j k : ℕ) → j < k → k < length (sheetOf s .watched) → getD (sheetOf s .watched) j 0 < getD (sheetOf s .watched) k 0
-  watched-rises j k l b =
-      let n : k < watchedCount s = rw (length-listed (watchedCount s) (watchedNode s)) at b in
-      rw (getD-listed (watchedCount s) (watchedNode s) j 0 (omega arith), getD-listed (watchedCount s) (watchedNode s) k 0 n) (a .watched-rise j k l n)
+-- of an accepted sheet
+module _ (S : Sheet) (a : Accepted S) where
+  pub watched-nodes : (v : ℕ) → List·Memᴰ v (S .watched) → v < nodeCount S
+  watched-nodes = members-all (λ v. v < nodeCount S) (S .watched) 0 (a .watched-nodes)
 
-  pub watched-bytes : (v : ℕ) → List·Memᴰ v (sheetOf s .watched) → v < 256
-  watched-bytes = listed-all (λ v. v < 256) (watchedCount s) (watchedNode s) (λ k b. let n = a .watched-nodes k b in let m = a .nodes in omega arith)
+  pub watched-bytes : (v : ℕ) → List·Memᴰ v (S .watched) → v < 256
+  watched-bytes v m = omega (arith, watched-nodes v m, a .nodes)
 
-  pub listing-of : (c : Cells) (horizon : ℕ) → Lists (sheetOf s) c horizon (listing (sheetOf s) c horizon)
-  listing-of c horizon = lists (sheetOf s) c horizon watched-rises watched-bytes
+  pub listing-of : (c : Cells) (horizon : ℕ) → Lists S c horizon (listing S c horizon)
+  listing-of c horizon = lists S c horizon (a .watched-rise) watched-bytes

@@ -1,36 +1,40 @@
 -- A memory holds: tick by tick, what a module comes to is its rule over the inputs' cells and what it came to the tick before; and the tick that a memory
 -- reads is the greatest at which its second input's cell is in its set. Assumes nothing.
+use lib.ListN.{set}
 use mathlib.Core.Bool.{Bool, true, false, true≢false}
+use mathlib.Core.List.{List}
 use mathlib.Core.Logic.{_↔_}
 use mathlib.Core.Path.{_≡_, refl, sym, ap, _∙_, subst}
 use native.Mathlib.Decide.{decLt, ℕ-discrete}
 use native.Mathlib.Omega.{arith}
 use Prim.Native.Nat.{ℕ, zero, suc, _≤_, _<_}
 use Rattle.level.specs.Choice.{if_then_else_}
-use Rattle.level.specs.Rule.{Rule, fixed, one, two, hold, comesTo}
+use Rattle.level.specs.Gate.{inputAt}
+use Rattle.level.specs.Level.{none}
+use Rattle.level.specs.Rule.{Rule, hold, comesTo, gate}
 use Rattle.network.specs.Timeline.{Timeline, Latest, never, at, latest, cellAt, comesToAt}
 
-module _ (a b : Timeline) (initial : ℕ) where
-  held : (w : ℕ) (l : Latest) (x : Bool) → cellAt a initial (if x then at w else l) ≡ (if x then a w else cellAt a initial l)
+module _ (a : ℕ → List ℕ) (initial : ℕ) where
+  first : Timeline
+  first w = inputAt (a w) 0
+
+  held : (w : ℕ) (l : Latest) (x : Bool) → cellAt first initial (if x then at w else l) ≡ (if x then first w else cellAt first initial l)
   held w l true = refl
   held w l false = refl
 
-  pub at-start : (rule : Rule) → comesToAt rule a b initial 0 ≡ comesTo rule (a 0) (b 0) initial
-  unfolding latest
-  at-start (fixed v) = refl
-  at-start (one f) = refl
-  at-start (two f) = refl
-  at-start (hold set) = held 0 never (set (b 0))
+  pub at-start : (rule : Rule) → comesToAt rule a initial 0 ≡ comesTo rule (a 0) initial
+  unfolding latest first
+  at-start (gate n f) = refl
+  at-start (hold set) = held 0 never (set (inputAt (a 0) 1))
 
-  pub recurrence : (rule : Rule) (u : ℕ) → comesToAt rule a b initial (suc u) ≡ comesTo rule (a (suc u)) (b (suc u)) (comesToAt rule a b initial u)
-  unfolding latest
-  recurrence (fixed v) u = refl
-  recurrence (one f) u = refl
-  recurrence (two f) u = refl
-  recurrence (hold set) u = held (suc u) (latest (λ w. set (b w)) u) (set (b (suc u)))
+  pub recurrence : (rule : Rule) (u : ℕ) → comesToAt rule a initial (suc u) ≡ comesTo rule (a (suc u)) (comesToAt rule a initial u)
+  unfolding latest first
+  recurrence (gate n f) u = refl
+  recurrence (hold set) u = held (suc u) (latest (λ w. set (inputAt (a w) 1)) u) (set (inputAt (a (suc u)) 1))
 
   -- of a memory: this tick's value, or what was held
-  pub memory : (set : ℕ → Bool) (u : ℕ) → comesToAt (hold set) a b initial (suc u) ≡ (if set (b (suc u)) then a (suc u) else comesToAt (hold set) a b initial u)
+  pub memory : (set : ℕ → Bool) (u : ℕ)
+      → comesToAt (hold set) a initial (suc u) ≡ (if set (inputAt (a (suc u)) 1) then inputAt (a (suc u)) 0 else comesToAt (hold set) a initial u)
   memory set u = recurrence (hold set) u
 
 -- the greatest tick not above u at which the test passes

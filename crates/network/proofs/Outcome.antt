@@ -1,6 +1,6 @@
 -- What a run answers, by the first tick that is refused. Assumes nothing.
-use borrow.Author.Tests.{lt-ltb, le-ltb}
 use lib.ListN.{length}
+use borrow.Author.Tests.{lt-ltb, le-ltb}
 use mathlib.Core.List.{List, [], _∷_, _++_}
 use mathlib.Core.Path.{_≡_, refl, ap, _∙_}
 use native.Mathlib.Decide.{ℕ-discrete}
@@ -8,21 +8,23 @@ use native.Mathlib.Nat.{not-suc-le-zero}
 use native.Mathlib.Omega.{arith}
 use Prim.Native.Nat.{ℕ, zero, suc, _<_, _≤_}
 use Rattle.level.specs.Choice.{if_then_else_}
-use Rattle.sheet.specs.declared.Event.{Event}
 use Rattle.sheet.specs.Enumerate.{each}
+use Rattle.sheet.specs.Limits.{pendingLimit}
 use Rattle.sheet.specs.Outcome.{finished, refused}
-use Rattle.format.specs.Sheet.{Sheet}
-use Rattle.network.specs.Timeline.{Cells}
-use Rattle.network.specs.Listing.{listing, pending}
-use Rattle.network.specs.Run.{room, pendingLimit, TickRow, tickRows, Written, wrote, firstTick, writtenOf}
+use Rattle.sheet.specs.Sheet.{Sheet}
+use Rattle.network.specs.Buffer.{room}
+use Rattle.network.specs.Listing.{Record, listing, pending}
+use Rattle.network.specs.Run.{TickRow, tickRows, Written, wrote, firstTick, writtenOf}
 use Rattle.network.specs.RunConditions.{Passed}
+use Rattle.network.specs.Timeline.{Cells}
+use Rattle.network.proofs.Fits.{fits}
 
 -- the first row that is met, or else another outcome
 firstOr : List TickRow → Written → Written
 firstOr [] w = w
 firstOr (r ∷ rs) w = if r .met then wrote (refused (r .number) (r .tick) (length (r .left))) (r .left) else firstOr rs w
 
-first-or : (xs : List TickRow) (all : List Event) → firstTick xs all ≡ firstOr xs (wrote (finished (length all)) all)
+first-or : (xs : List TickRow) (all : List Record) → firstTick xs all ≡ firstOr xs (wrote (finished (length all)) all)
 unfolding firstTick firstOr
 first-or [] all = refl
 first-or (r ∷ rs) all = ap (λ w. if r .met then wrote (refused (r .number) (r .tick) (length (r .left))) (r .left) else w) (first-or rs all)

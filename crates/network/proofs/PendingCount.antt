@@ -1,8 +1,8 @@
 -- As many changes are pending in the renumbered sheet: a module's are counted from its delay and its output's cells below the horizon, which are
 -- the same in both, and the count over all modules is the same in any order. Assumes nothing.
-use borrow.Author.Tests.{ltb-true}
 use lib.Dec.{eqb, ltb}
 use lib.ListN.{length, getD}
+use borrow.Author.Tests.{ltb-true}
 use mathlib.Core.Bool.{Bool, true, false, _&&_, not}
 use mathlib.Core.List.{List, [], _∷_}
 use mathlib.Core.Path.{_≡_, refl, sym, ap, ap₂, _∙_}
@@ -11,15 +11,14 @@ use native.Mathlib.Omega.{arith}
 use Prim.Native.Nat.{ℕ, zero, suc, _+_, _<_, _≤_}
 use Rattle.level.specs.Choice.{if_then_else_}
 use Rattle.sheet.specs.Enumerate.{each}
-use Rattle.format.specs.Sheet.{Sheet}
-use Rattle.network.specs.Parts.{nodeTotal, moduleTotal, moduleIn, outputOf}
-use Rattle.network.specs.Order.{Listed}
-use Rattle.network.specs.Timeline.{Cells}
+use Rattle.sheet.specs.Sheet.{Sheet, outputOf, moduleCount, moduleOf, nodeCount}
 use Rattle.network.specs.Listing.{changes, Pending, pendingOf, pending}
+use Rattle.network.specs.Order.{Listed}
 use Rattle.network.specs.Renumbering.{Permutation, renumbered}
-use Rattle.network.proofs.Wired.{Wired}
+use Rattle.network.specs.Timeline.{Cells}
 use Rattle.network.proofs.Listed.{one-to-one, each-lengths, each-reordered}
-use Rattle.network.proofs.Renumbered.{module-total-renumbered, module-in-renumbered}
+use Rattle.network.proofs.Renumbered.{module-count-renumbered, module-of-renumbered}
+use Rattle.network.proofs.Wired.{Wired}
 
 -- a change at a tick is told by the cells of that tick and of the one before
 pub changes-same : (c q : Cells) (v w u : ℕ) → ((k : ℕ) → k ≤ u → c k v ≡ q k w) → changes c v u ≡ changes q w u
@@ -43,10 +42,10 @@ dueOf m c v horizon t j = if due c v horizon t j then record { driver = m; due =
 
 -- a module in each of two sheets, with the same delay and the same cells of its output
 module _ (S P : Sheet) (c q : Cells) (horizon t m k : ℕ) where
-  pub pending-of-same : moduleIn S m .delay ≡ moduleIn P k .delay → ((u : ℕ) → u < horizon → c u (outputOf S m) ≡ q u (outputOf P k))
+  pub pending-of-same : moduleOf S m .delay ≡ moduleOf P k .delay → ((u : ℕ) → u < horizon → c u (outputOf S m) ≡ q u (outputOf P k))
       → length (pendingOf S c horizon t m) ≡ length (pendingOf P q horizon t k)
   pending-of-same d e =
-      each-lengths (moduleIn S m .delay) (dueOf m c (outputOf S m) horizon t) (dueOf k q (outputOf P k) horizon t) (λ j h. same j)
+      each-lengths (moduleOf S m .delay) (dueOf m c (outputOf S m) horizon t) (dueOf k q (outputOf P k) horizon t) (λ j h. same j)
       ∙ ap (λ n. length (each n (dueOf k q (outputOf P k) horizon t))) d
     where
       test : (j : ℕ) → due c (outputOf S m) horizon t j ≡ due q (outputOf P k) horizon t j
@@ -55,19 +54,19 @@ module _ (S P : Sheet) (c q : Cells) (horizon t m k : ℕ) where
       same : (j : ℕ) → length (dueOf m c (outputOf S m) horizon t j) ≡ length (dueOf k q (outputOf P k) horizon t j)
       same j = counted _ (due c (outputOf S m) horizon t j) ∙ ap (λ b. if b then 1 else 0) (test j) ∙ sym (counted _ (due q (outputOf P k) horizon t j))
 
-module _ (S : Sheet) (π : Permutation (nodeTotal S)) (order : List ℕ) (each-once : Listed (moduleTotal S) order) (w : Wired S) where
+module _ (S : Sheet) (π : Permutation (nodeCount S)) (order : List ℕ) (each-once : Listed (moduleCount S) order) (w : Wired S) where
   abbrev P : Sheet
   P = renumbered S (π .to) (π .from) order
 
-  pub pending-renumbered : (n q : Cells) (horizon : ℕ) → ((t v : ℕ) → t < horizon → v < nodeTotal S → n t v ≡ q t (π .to v))
+  pub pending-renumbered : (n q : Cells) (horizon : ℕ) → ((t v : ℕ) → t < horizon → v < nodeCount S → n t v ≡ q t (π .to v))
       → (t : ℕ) → length (pending P q horizon t) ≡ length (pending S n horizon t)
   pending-renumbered n q horizon same t =
-      ap (λ n. length (each n (pendingOf P q horizon t))) (module-total-renumbered S π order each-once)
-      ∙ each-lengths (moduleTotal S) (pendingOf P q horizon t) (λ k. pendingOf S n horizon t (getD order k 0)) at
-      ∙ each-reordered (moduleTotal S) (λ k. getD order k 0) (one-to-one each-once) (pendingOf S n horizon t)
+      ap (λ n. length (each n (pendingOf P q horizon t))) (module-count-renumbered S π order each-once)
+      ∙ each-lengths (moduleCount S) (pendingOf P q horizon t) (λ k. pendingOf S n horizon t (getD order k 0)) at
+      ∙ each-reordered (moduleCount S) (λ k. getD order k 0) (one-to-one each-once) (pendingOf S n horizon t)
     where
-      at : (k : ℕ) → k < moduleTotal S → length (pendingOf P q horizon t k) ≡ length (pendingOf S n horizon t (getD order k 0))
+      at : (k : ℕ) → k < moduleCount S → length (pendingOf P q horizon t k) ≡ length (pendingOf S n horizon t (getD order k 0))
       at k h =
-          let e = module-in-renumbered S π order each-once k h in
+          let e = module-of-renumbered S π order each-once k h in
           pending-of-same P S q n horizon t k (getD order k 0) (ap (λ m. m .delay) e)
           (λ u l. ap (λ m. q u (m .output)) e ∙ sym (same u _ l (w .output-node _ (each-once .known k h))))

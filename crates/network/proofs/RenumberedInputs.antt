@@ -1,28 +1,33 @@
 -- A node of a renumbered sheet is driven, or an input, exactly when the node that got its number is: every module stands somewhere in the order.
 -- Assumes nothing.
+use lib.ListN.{getD}
 use mathlib.Core.List.{List}
 use mathlib.Core.Logic.{_↔_}
 use mathlib.Core.Path.{_≡_, sym, ap, _∙_, subst}
 use Prim.Native.Nat.{ℕ, _<_}
-use lib.ListN.{getD}
-use Rattle.sheet.specs.Layout.{nodeCount, moduleCount, moduleOf}
+use Rattle.sheet.specs.Enumerate.{listed}
+use Rattle.sheet.specs.Sheet.{nodeCount, moduleCount, Sheet, outputOf}
 use Rattle.format.specs.Accepted.{Driven, Input, Accepted}
 use Rattle.network.specs.Order.{Listed}
-use Rattle.network.specs.Renumbering.{Permutation}
-use Rattle.network.proofs.Listed.{position}
-use Rattle.network.proofs.RenumberedParts.{Renumbers}
+use Rattle.network.specs.Renumbering.{Permutation, renumbered}
+use Rattle.network.specs.Timeline.{at}
+use Rattle.network.proofs.Existence.{undriven}
+use Rattle.network.proofs.Renumbered.{module-count-renumbered, module-of-renumbered, module-stands, node-count-renumbered}
 
-module _ (s p : List ℕ) (π : Permutation (nodeCount s)) (order : List ℕ) (acc : Accepted s) (each-once : Listed (moduleCount s) order) (r : Renumbers s p π order) where
-  pub output-at : (k : ℕ) → k < moduleCount s → moduleOf p k .output ≡ π .to (moduleOf s (getD order k 0) .output)
-  output-at k h = ap (λ m. m .output) (r .module-at k h)
+module _ (S : Sheet) (acc : Accepted S) (π : Permutation (nodeCount S)) (order : List ℕ) (each-once : Listed (moduleCount S) order) where
+  abbrev P : Sheet
+  P = renumbered S (π .to) (π .from) order
+
+  pub output-at : (k : ℕ) → k < moduleCount S → outputOf P k ≡ π .to (outputOf S (getD order k 0))
+  output-at k h = ap (λ m. m .output) (module-of-renumbered S π order each-once k h)
 
   -- by the number in the renumbered sheet
-  pub driven-from : (w : ℕ) → w < nodeCount s → Driven p w ↔ Driven s (π .from w)
+  pub driven-from : (w : ℕ) → w < nodeCount S → Driven P w ↔ Driven S (π .from w)
   driven-from w l = (back, there)
     where
-      back : Driven p w → Driven s (π .from w)
+      back : Driven P w → Driven S (π .from w)
       back d =
-          let h = rw (r .module-count) at (d .listed) in
+          let h = rw (module-count-renumbered S π order each-once) at (d .listed) in
           let m = each-once .known (d .driver) h in
           record {
             driver = getD order (d .driver) 0;
@@ -30,21 +35,21 @@ module _ (s p : List ℕ) (π : Permutation (nodeCount s)) (order : List ℕ) (a
             output = sym (π .from-to _ (acc .sound-modules _ m .output)) ∙ ap (π .from) (sym (output-at (d .driver) h) ∙ d .output);
           }
 
-      there : Driven s (π .from w) → Driven p w
+      there : Driven S (π .from w) → Driven P w
       there d =
-          let k = position each-once (d .driver) (d .listed) in
+          let k = module-stands S π order each-once (d .driver) (d .listed) in
           record {
             driver = k .0;
-            listed = rw (r .module-count) (k .1);
-            output = output-at (k .0) (k .1) ∙ ap (λ m. π .to (moduleOf s m .output)) (k .2) ∙ ap (π .to) (d .output) ∙ π .to-from w l;
+            listed = rw (module-count-renumbered S π order each-once) (k .1);
+            output = ap (λ m. m .output) (k .2) ∙ ap (π .to) (d .output) ∙ π .to-from w l;
           }
 
-  pub input-from : (w : ℕ) → w < nodeCount s → Input p w ↔ Input s (π .from w)
+  pub input-from : (w : ℕ) → w < nodeCount S → Input P w ↔ Input S (π .from w)
   input-from w l = (
     λ i. record { node = π .from-below w l; undriven = λ d. i .undriven (driven-from w l .1 d) },
-    λ i. record { node = rw (r .node-count) l; undriven = λ d. i .undriven (driven-from w l .0 d) },
+    λ i. record { node = rw (node-count-renumbered S π order each-once) l; undriven = λ d. i .undriven (driven-from w l .0 d) },
   )
 
   -- by the number in the sheet
-  pub input-to : (v : ℕ) → v < nodeCount s → Input p (π .to v) ↔ Input s v
-  input-to v l = subst (λ u. Input p (π .to v) ↔ Input s u) (π .from-to v l) (input-from (π .to v) (π .to-below v l))
+  pub input-to : (v : ℕ) → v < nodeCount S → Input P (π .to v) ↔ Input S v
+  input-to v l = subst (λ u. Input P (π .to v) ↔ Input S u) (π .from-to v l) (input-from (π .to v) (π .to-below v l))

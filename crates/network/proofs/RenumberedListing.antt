@@ -1,22 +1,21 @@
 -- The listing of a renumbered sheet is the listing renumbered and sorted again, and every tick has as many records in both. Assumes nothing.
-use lib.Dec.{T, eqb}
+use lib.Dec.{T}
 use lib.ListN.{length, getD}
-use mathlib.Core.Bool.{not}
 use mathlib.Core.List.{map, List·Memᴰ, Memᴰ·map, Memᴰ·of-map, Memᴰ·cast}
 use mathlib.Core.Logic.{_↔_}
-use mathlib.Core.Path.{_≡_, refl, sym, ap, ap₂, _∙_, subst}
-use Prim.Native.Nat.{ℕ, zero, suc, _<_, _≤_}
+use mathlib.Core.Path.{_≡_, refl, sym, ap, _∙_, subst}
 use native.Mathlib.Omega.{arith}
-use Rattle.sheet.specs.declared.Event.{Event}
-use Rattle.sheet.specs.Refusal.{key}
-use Rattle.format.specs.Sheet.{Sheet}
-use Rattle.network.specs.Timeline.{Cells}
-use Rattle.network.specs.Listing.{changes, recordOf, listing}
+use Prim.Native.Nat.{ℕ, _<_, _≤_}
+use Rattle.sheet.specs.Sheet.{Sheet}
 use Rattle.network.specs.Demand2.{Shown, Lists}
-use Rattle.network.specs.Renumbering.{sort, renumberedEvent, renumberedListing}
-use Rattle.network.proofs.Rising.{pairs-of, pairs-at, Up}
-use Rattle.network.proofs.Sort.{sort-is, sort-map-length, sort-map-mem, sort-map-rises}
+use Rattle.network.specs.Listing.{Record, recordKey, changes, recordOf, listing}
+use Rattle.network.specs.Renumbering.{sort, renumberedRecord, renumberedListing}
+use Rattle.network.specs.Timeline.{Cells}
+use Rattle.level.proofs.Computed.{below}
 use Rattle.network.proofs.Listing.{lists}
+use Rattle.network.proofs.PendingCount.{changes-same}
+use Rattle.network.proofs.Rising.{rising-at}
+use Rattle.network.proofs.Sort.{sort-is, sort-map-length, sort-map-mem, sort-map-rises}
 
 -- P watches S's nodes by their new numbers, sorted; the new numbers are bytes, and no two nodes have one
 pub record Rewatched (S P : Sheet) (to : ℕ → ℕ) : Type 0 where
@@ -31,7 +30,7 @@ module _ (S P : Sheet) (to : ℕ → ℕ) (w : Rewatched S P to) where
   rewatched = rw (w .sorted) (sort-map-mem (λ v. v) to (S .watched))
 
   rewatched-rises : (j k : ℕ) → j < k → k < length (P .watched) → getD (P .watched) j 0 < getD (P .watched) k 0
-  rewatched-rises = rw (w .sorted) (λ j k l b. sort-map-rises (λ v. v) to (λ v. v) (S .watched) (pairs-at (Up (λ v. v)) (S .watched) (pairs-of (Up (λ v. v)) (S .watched) 0 (w .rises))) (w .apart) j k l b 0)
+  rewatched-rises = rw (w .sorted) (λ j k l b. sort-map-rises (λ v. v) to (λ v. v) (S .watched) (rising-at (λ v. v) (S .watched) 0 (w .rises)) (w .apart) j k l b 0)
 
   -- the same cells of watched nodes
   module _ (n q : Cells) (horizon : ℕ) (same : (t v : ℕ) → t < horizon → List·Memᴰ v (S .watched) → n t v ≡ q t (to v)) where
@@ -42,10 +41,9 @@ module _ (S P : Sheet) (to : ℕ → ℕ) (w : Rewatched S P to) where
     listing-P = lists P q horizon rewatched-rises (λ v m. let r = rewatched .0 m in subst (λ v. v < 256) (r .2) (w .new-bytes (r .0) (r .1)))
 
     same-changes : (t v : ℕ) → t < horizon → List·Memᴰ v (S .watched) → changes n v t ≡ changes q (to v) t
-    same-changes zero v b m = refl
-    same-changes (suc t) v b m = ap₂ (λ x y. not (eqb x y)) (same (suc t) v b m) (same t v (omega arith) m)
+    same-changes t v b m = changes-same n q v (to v) t (λ u l. same u v (omega arith) m)
 
-    there : (r : Event) → Shown S n horizon r → Shown P q horizon (renumberedEvent to r)
+    there : (r : Record) → Shown S n horizon r → Shown P q horizon (renumberedRecord to r)
     there r h =
         record {
           below = h .below;
@@ -54,7 +52,7 @@ module _ (S P : Sheet) (to : ℕ → ℕ) (w : Rewatched S P to) where
           value = h .value ∙ same (r .tick) (r .node) (h .below) (h .watched);
         }
 
-    back : (r : Event) → Shown P q horizon r → (a : Event) × Shown S n horizon a × (renumberedEvent to a ≡ r)
+    back : (r : Record) → Shown P q horizon r → (a : Record) × Shown S n horizon a × (renumberedRecord to a ≡ r)
     back r h =
         let u = rewatched .0 (h .watched) in
         let cell = same (r .tick) (u .0) (h .below) (u .1) in (
@@ -63,16 +61,16 @@ module _ (S P : Sheet) (to : ℕ → ℕ) (w : Rewatched S P to) where
           λ i. record { tick = r .tick; node = u .2 i; value = (cell ∙ ap (q (r .tick)) (u .2) ∙ sym (h .value)) i },
         )
 
-    members : (r : Event) → List·Memᴰ r (map (renumberedEvent to) (listing S n horizon)) ↔ List·Memᴰ r (listing P q horizon)
+    members : (r : Record) → List·Memᴰ r (map (renumberedRecord to) (listing S n horizon)) ↔ List·Memᴰ r (listing P q horizon)
     members r = (to-P, from-P)
       where
-        to-P : List·Memᴰ r (map (renumberedEvent to) (listing S n horizon)) → List·Memᴰ r (listing P q horizon)
-        to-P m = let a = Memᴰ·of-map (renumberedEvent to) (listing S n horizon) m in Memᴰ·cast (sym (a .2)) (listing-P .all (renumberedEvent to (a .0)) (there (a .0) (listing-N .shown (a .0) (a .1))))
+        to-P : List·Memᴰ r (map (renumberedRecord to) (listing S n horizon)) → List·Memᴰ r (listing P q horizon)
+        to-P m = let a = Memᴰ·of-map (renumberedRecord to) (listing S n horizon) m in Memᴰ·cast (sym (a .2)) (listing-P .all (renumberedRecord to (a .0)) (there (a .0) (listing-N .shown (a .0) (a .1))))
 
-        from-P : List·Memᴰ r (listing P q horizon) → List·Memᴰ r (map (renumberedEvent to) (listing S n horizon))
-        from-P m = let a = back r (listing-P .shown r m) in Memᴰ·cast (sym (a .2)) (Memᴰ·map (renumberedEvent to) (listing-N .all (a .0) (a .1)))
+        from-P : List·Memᴰ r (listing P q horizon) → List·Memᴰ r (map (renumberedRecord to) (listing S n horizon))
+        from-P m = let a = back r (listing-P .shown r m) in Memᴰ·cast (sym (a .2)) (Memᴰ·map (renumberedRecord to) (listing-N .all (a .0) (a .1)))
 
-    key-apart : (a b : Event) → List·Memᴰ a (listing S n horizon) → List·Memᴰ b (listing S n horizon) → key (renumberedEvent to a) ≡ key (renumberedEvent to b) → key a ≡ key b
+    key-apart : (a b : Record) → List·Memᴰ a (listing S n horizon) → List·Memᴰ b (listing S n horizon) → recordKey (renumberedRecord to a) ≡ recordKey (renumberedRecord to b) → recordKey a ≡ recordKey b
     key-apart a b i j e =
         let f = listing-N .shown a i .watched in
         let g = listing-N .shown b j .watched in
@@ -82,8 +80,8 @@ module _ (S P : Sheet) (to : ℕ → ℕ) (w : Rewatched S P to) where
         omega arith
 
     pub renumbered-listing : listing P q horizon ≡ renumberedListing to (listing S n horizon)
-    renumbered-listing = sym (sort-is key (map (renumberedEvent to) (listing S n horizon)) (listing P q horizon) (sort-map-rises key (renumberedEvent to) key (listing S n horizon) (listing-N .rise) key-apart) (listing-P .rise) members)
+    renumbered-listing = sym (sort-is recordKey (map (renumberedRecord to) (listing S n horizon)) (listing P q horizon) (sort-map-rises recordKey (renumberedRecord to) recordKey (listing S n horizon) (listing-N .rise) key-apart) (listing-P .rise) members)
 
   pub renumbered-length : (n q : Cells) (horizon : ℕ) → ((t v : ℕ) → t < horizon → List·Memᴰ v (S .watched) → n t v ≡ q t (to v)) → (k : ℕ) → k ≤ horizon → length (listing P q k) ≡ length (listing S n k)
   renumbered-length n q horizon same k b =
-      ap length (renumbered-listing n q k (λ t v l m. same t v (omega arith) m)) ∙ sort-map-length key (renumberedEvent to) (listing S n k)
+      ap length (renumbered-listing n q k (λ t v l m. same t v (omega arith) m)) ∙ sort-map-length recordKey (renumberedRecord to) (listing S n k)

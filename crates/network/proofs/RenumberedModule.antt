@@ -1,40 +1,36 @@
 -- A module numbered anew: its used inputs are those of the module, numbered anew, its unused ones stay, and it is sound where the module is.
 -- Assumes nothing.
-use mathlib.Core.List.{List, [], _∷_, map, List·Memᴰ, Memᴰ·of-map}
-use mathlib.Core.Path.{_≡_, refl, subst}
-use Prim.Native.Nat.{ℕ, _<_}
 use lib.Dec.{ltb}
 use lib.ListN.{take, drop}
+use borrow.Author.Tests.{lt-ltb}
+use mathlib.Core.List.{List, [], _∷_, map, List·Memᴰ, Memᴰ·of-map}
+use mathlib.Core.Path.{_≡_, refl, subst}
+use native.Mathlib.Omega.{arith}
+use Prim.Native.Nat.{ℕ, _<_, suc, zero}
 use Rattle.level.specs.Choice.{if_then_else_}
-use Rattle.level.specs.Rule.{Rule, fixed, one, two, hold, inputsOf}
-use Rattle.level.specs.Kind.{ruleOf}
+use Rattle.level.specs.Rule.{inputsOf}
+use Rattle.sheet.specs.Wiring.{usedInputs, unusedInputs, moduleRule}
 use Rattle.sheet.specs.declared.Module.{Module}
-use Rattle.sheet.specs.Wiring.{usedInputs, unusedInputs}
 use Rattle.format.specs.Accepted.{SoundModule}
 use Rattle.network.specs.Renumbering.{renumberedModule}
+use Rattle.level.proofs.Computed.{below}
 
--- the inputs of a rule, those that it uses numbered anew
-abbrev inputs : (ℕ → ℕ) → Rule → ℕ → ℕ → List ℕ
-inputs to r a b = (if ltb 0 (inputsOf r) then to a else a) ∷ (if ltb 1 (inputsOf r) then to b else b) ∷ []
+-- two inputs, the first k of them numbered anew
+abbrev renumberedInputs : (ℕ → ℕ) → ℕ → ℕ → ℕ → List ℕ
+renumberedInputs to k a b = (if ltb 0 k then to a else a) ∷ (if ltb 1 k then to b else b) ∷ []
 
-used : (to : ℕ → ℕ) (r : Rule) (a b : ℕ) → take (inputsOf r) (inputs to r a b) ≡ map to (take (inputsOf r) (a ∷ b ∷ []))
-used to (fixed v) a b = refl
-used to (one f) a b = refl
-used to (two f) a b = refl
-used to (hold set) a b = refl
-
-unused : (to : ℕ → ℕ) (r : Rule) (a b : ℕ) → drop (inputsOf r) (inputs to r a b) ≡ drop (inputsOf r) (a ∷ b ∷ [])
-unused to (fixed v) a b = refl
-unused to (one f) a b = refl
-unused to (two f) a b = refl
-unused to (hold set) a b = refl
+used-unused : (to : ℕ → ℕ) (k a b : ℕ) → (take k (renumberedInputs to k a b) ≡ map to (take k (a ∷ b ∷ []))) × (drop k (renumberedInputs to k a b) ≡ drop k (a ∷ b ∷ []))
+used-unused to zero a b = (refl, refl)
+used-unused to (suc zero) a b = (refl, refl)
+used-unused to (suc (suc zero)) a b = (refl, refl)
+used-unused to (suc (suc (suc k))) a b = rw (lt-ltb 0 (suc (suc (suc k))) (omega arith), lt-ltb 1 (suc (suc (suc k))) (omega arith)) (refl, refl)
 
 module _ (to : ℕ → ℕ) (m : Module) where
   pub used-renumbered : usedInputs (renumberedModule to m) ≡ map to (usedInputs m)
-  used-renumbered = used to (ruleOf (m .kind) (m .parameter)) (m .first) (m .second)
+  used-renumbered = used-unused to (inputsOf (moduleRule m)) (m .first) (m .second) .0
 
   unused-renumbered : unusedInputs (renumberedModule to m) ≡ unusedInputs m
-  unused-renumbered = unused to (ruleOf (m .kind) (m .parameter)) (m .first) (m .second)
+  unused-renumbered = used-unused to (inputsOf (moduleRule m)) (m .first) (m .second) .1
 
   pub sound-renumbered : (n : ℕ) → ((v : ℕ) → v < n → to v < n) → SoundModule n m → SoundModule n (renumberedModule to m)
   sound-renumbered n below h =

@@ -1,14 +1,14 @@
 -- Lists whose entries stand in a relation to all later ones, by their members and by their places; a rising list is told by its members. Assumes nothing.
+use lib.ListN.{length, getD}
 use mathlib.Core.List.{List, [], _∷_, _++_, List·Memᴰ, List·Memᴰ·head, List·Memᴰ·tail, List·Memᴰ·not-nil, List·Memᴰ·cases-cons, List·Memᴰ·append-cases}
 use mathlib.Core.Logic.{_↔_, _⊎_, inl, inr, ⊎-elim}
 use mathlib.Core.Path.{_≡_, refl, sym, ap, ap₂, subst}
-use Prim.Native.Nat.{ℕ, zero, suc, _<_, zero-le, suc-le-suc}
 use native.Mathlib.Nat.{le-of-suc-le-suc, not-suc-le-zero}
 use native.Mathlib.Omega.{arith}
-use lib.ListN.{length, getD}
+use Prim.Native.Nat.{ℕ, zero, suc, _<_, zero-le, suc-le-suc}
 use Rattle.sheet.specs.Enumerate.{each}
-use Rattle.format.proofs.Listed.{getD-mem}
 use Rattle.sheet.proofs.Each.{each-mem}
+use Rattle.sheet.proofs.Listed.{getD-mem}
 
 module _ {ℓ} {A : Type ℓ} where
   -- every entry and every later one
@@ -23,6 +23,10 @@ module _ {ℓ} {A : Type ℓ} where
   pub mem-place : {a : A} {l : List A} → List·Memᴰ a l → (i : ℕ) × (i < length l) × ((d : A) → getD l i d ≡ a)
   mem-place (List·Memᴰ·head e) = (zero, suc-le-suc zero-le, λ d. sym e)
   mem-place (List·Memᴰ·tail m) = let p = mem-place m in (suc (p .0), suc-le-suc (p .1), p .2)
+
+  -- what holds of each entry by its place holds of each member
+  pub members-all {κ} : (P : A → Type κ) (l : List A) (d : A) → ((i : ℕ) → i < length l → P (getD l i d)) → (a : A) → List·Memᴰ a l → P a
+  members-all P l d h a m = let p = mem-place m in subst P (p .2 d) (h (p .0) (p .1))
 
   module _ (R : A → A → Type 0) where
     -- from the places, read with any entry past the end
@@ -54,6 +58,10 @@ module _ {ℓ} {A : Type ℓ} where
     pub rising-pairs : (l : List A) → Rising by l → Pairs Up l
     rising-pairs [] h = tt
     rising-pairs (x ∷ xs) h = pairs-of Up (x ∷ xs) x (λ j k l b. h j k l b x)
+
+    -- read with one entry past the end, or with any
+    pub rising-at : (l : List A) (d : A) → ((j k : ℕ) → j < k → k < length l → Up (getD l j d) (getD l k d)) → Rising by l
+    rising-at l d h = pairs-at Up l (pairs-of Up l d h)
 
     -- two rising lists with the same members: each one's first entry is the least of them
     pairs-unique : (l m : List A) → Pairs Up l → Pairs Up m → ((a : A) → List·Memᴰ a l ↔ List·Memᴰ a m) → l ≡ m

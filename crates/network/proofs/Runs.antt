@@ -1,74 +1,74 @@
 -- A run over an accepted sheet, its horizon in range, is what the cells give that are worked in any valid orders; these cells satisfy the sheet, and no
 -- others do. A sheet that runs to its horizon is such a one. Assumes nothing.
-use lib.Dec.{eqb, ltb}
-use mathlib.Core.Bool.{Bool, true, false, _||_}
-use mathlib.Core.List.{List, [], List·Memᴰ}
-use mathlib.Core.Logic.{⊎-elim}
-use mathlib.Core.Path.{_≡_, refl, sym, ap, _∙_, subst}
-use Prim.Native.Nat.{ℕ, _<_}
+use mathlib.Core.Bool.{Bool, false, true}
+use mathlib.Core.List.{List, []}
+use mathlib.Core.Logic.{⊎-elim, _⊎_}
+use mathlib.Core.Path.{ap, refl, sym, _≡_, _∙_}
+use Prim.Native.Nat.{ℕ}
 use Rattle.level.specs.Choice.{if_then_else_}
-use Rattle.sheet.specs.Layout.{watchedCount, watchedNode}
-use Rattle.sheet.specs.Outcome.{Outcome, finished, refused}
-use Rattle.sheet.specs.Refusal.{rows, checked}
-use Rattle.sheet.proofs.Rows.{first-answers}
+use Rattle.sheet.specs.Layout.{sheetOf}
+use Rattle.sheet.specs.Outcome.{finished, refused}
+use Rattle.sheet.specs.Refusal.{checked, rows}
+use Rattle.sheet.specs.Sheet.{Sheet}
+use Rattle.sheet.specs.WorkingOrder.{workingOrder}
+use Rattle.sheet.specs.declared.Edition.{Edition}
 use Rattle.format.specs.Accepted.{Accepted}
-use Rattle.format.specs.Sheet.{sheetOf}
-use Rattle.format.proofs.Accepted.{accepted, conversely}
-use Rattle.format.proofs.Listed.{listed-all}
-use Rattle.sheet.proofs.Rows.{finished≢refused}
-use Rattle.network.specs.Parts.{nodeTotal}
+use Rattle.network.specs.Demand3.{Only, RunsToHorizon, ValidOrders}
+use Rattle.network.specs.Run.{afterCheck, cellsOf, horizonOutside, ran, ranSheet, writtenOf, wrote}
 use Rattle.network.specs.Satisfied.{Satisfied}
-use Rattle.network.specs.Order.{workingOrder}
-use Rattle.network.specs.Run.{wrote, writtenOf, cellsOf, afterCheck, ran}
-use Rattle.network.specs.Demand3.{RunsToHorizon, ValidOrders, Only, workedFrom}
-use Rattle.network.proofs.Parts.{node-total}
-use Rattle.network.proofs.Wired.{wired}
-use Rattle.network.proofs.Existence.{existence}
-use Rattle.network.proofs.Uniqueness.{uniqueness}
-use Rattle.network.proofs.WorkingOrder.{working-order}
+use Rattle.network.specs.Working.{worked}
+use Rattle.sheet.proofs.Rows.{finished≢refused, first-answers}
 use Rattle.network.proofs.Answers.{written-local}
+use Rattle.network.proofs.Existence.{existence}
+use Rattle.network.proofs.Listing.{watched-nodes}
+use Rattle.network.proofs.Uniqueness.{uniqueness}
+use Rattle.network.proofs.Wired.{wired}
+use Rattle.network.proofs.WorkingOrder.{working-order}
 
--- horizon 0 or above 1,000,000
-abbrev pub outOfRange : ℕ → Bool
-outOfRange horizon = eqb horizon 0 || ltb 1000000 horizon
+module _ (E : Edition) (s : List ℕ) (horizon bytes : ℕ) where
+  -- a horizon outside its range is refused before anything is read
+  pub ran-outside : horizonOutside horizon ≡ true → ran E s horizon bytes ≡ wrote (refused 1 0 0) []
+  unfolding ran
+  ran-outside out = ap (λ b. if b then wrote (refused 1 0 0) [] else afterCheck (sheetOf E s) horizon bytes (checked E s)) out
 
-module _ (s : List ℕ) (horizon bytes : ℕ) (runs : RunsToHorizon s horizon bytes) where
-  -- the horizon and the check were passed
-  passed : (outOfRange horizon ≡ false) × (checked s ≡ finished 0)
-  unfolding ran checked
-  passed = horizon-first (outOfRange horizon) refl (runs .answer)
-    where
-      then-check : (o : Outcome) → checked s ≡ o → afterCheck s horizon bytes o .answer ≡ finished (runs .count) → checked s ≡ finished 0
-      then-check (finished n) c e = ⊎-elim (λ h. h) (λ r. absurd (finished≢refused (sym c ∙ r .2))) (first-answers (rows s))
-      then-check (refused n p k) c e = absurd (finished≢refused (sym e))
-
-      horizon-first : (b : Bool) → outOfRange horizon ≡ b → (if b then wrote (refused 1 0 0) [] else afterCheck s horizon bytes (checked s)) .answer ≡ finished (runs .count)
-          → (outOfRange horizon ≡ false) × (checked s ≡ finished 0)
-      horizon-first true r e = absurd (finished≢refused (sym e))
-      horizon-first false r e = (r, then-check (checked s) refl e)
-
-  pub in-range : outOfRange horizon ≡ false
-  in-range = passed .0
-
-  pub accepted-run : Accepted s
-  accepted-run = accepted s (passed .1)
-
-module _ (s : List ℕ) (acc : Accepted s) where
-  pub watched-nodes : (v : ℕ) → List·Memᴰ v (sheetOf s .watched) → v < nodeTotal (sheetOf s)
-  watched-nodes = listed-all (λ v. v < nodeTotal (sheetOf s)) (watchedCount s) (watchedNode s) (λ k h. subst (λ n. watchedNode s k < n) (sym (node-total s)) (acc .watched-nodes k h))
-
-  module _ (horizon : ℕ) (orders : ℕ → List ℕ) (valid : ValidOrders s horizon orders) where
-    pub satisfied : Satisfied (sheetOf s) horizon (workedFrom s horizon orders)
-    satisfied = existence (sheetOf s) (wired s acc) orders horizon valid
-
-    pub only : Only s horizon (workedFrom s horizon orders)
-    only c sat t v h l = uniqueness (sheetOf s) (wired s acc) orders horizon valid c sat t v h (rw (node-total s) l)
-
-    pub ran-worked : outOfRange horizon ≡ false → (bytes : ℕ) → ran s horizon bytes ≡ writtenOf (sheetOf s) (workedFrom s horizon orders) horizon bytes
+  module _ (range : horizonOutside horizon ≡ false) where
+    after-check : ran E s horizon bytes ≡ afterCheck (sheetOf E s) horizon bytes (checked E s)
     unfolding ran
-    ran-worked range bytes =
-        ap (λ b. if b then wrote (refused 1 0 0) [] else afterCheck s horizon bytes (checked s)) range
-        ∙ ap (afterCheck s horizon bytes) (conversely s acc)
-        ∙ written-local (sheetOf s) (wired s acc) watched-nodes (cellsOf s horizon) (workedFrom s horizon orders) horizon
-        (uniqueness (sheetOf s) (wired s acc) orders horizon valid (cellsOf s horizon) (existence (sheetOf s) (wired s acc) (λ t. workingOrder s) horizon (λ t h. working-order s acc)))
-        bytes
+    after-check = ap (λ b. if b then wrote (refused 1 0 0) [] else afterCheck (sheetOf E s) horizon bytes (checked E s)) range
+
+    -- then what the check refuses
+    pub ran-refused : {n p k : ℕ} → checked E s ≡ refused n p k → ran E s horizon bytes ≡ wrote (refused n p k) []
+    ran-refused c = after-check ∙ ap (afterCheck (sheetOf E s) horizon bytes) c
+
+    -- and else the sheet in the bytes runs
+    pub ran-sheet : checked E s ≡ finished 0 → ran E s horizon bytes ≡ ranSheet (sheetOf E s) horizon bytes
+    ran-sheet c = after-check ∙ ap (afterCheck (sheetOf E s) horizon bytes) c
+
+-- a check accepts, or refuses with a number and a place
+pub checks : (E : Edition) (s : List ℕ) → (checked E s ≡ finished 0) ⊎ ((n : ℕ) × (p : ℕ) × (checked E s ≡ refused n p 0))
+unfolding checked
+checks E s = first-answers (rows E s)
+
+module _ (E : Edition) (s : List ℕ) (horizon bytes : ℕ) (runs : RunsToHorizon E s horizon bytes) where
+  -- the horizon and the check were passed
+  pub in-range : horizonOutside horizon ≡ false
+  in-range = go (horizonOutside horizon) refl
+    where
+      go : (b : Bool) → horizonOutside horizon ≡ b → horizonOutside horizon ≡ false
+      go true out = absurd (finished≢refused (sym (runs .answer) ∙ ap (λ w. w .answer) (ran-outside E s horizon bytes out)))
+      go false range = range
+
+  pub accepted-run : checked E s ≡ finished 0
+  accepted-run = ⊎-elim (λ h. h) (λ r. absurd (finished≢refused (sym (runs .answer) ∙ ap (λ w. w .answer) (ran-refused E s horizon bytes in-range (r .2))))) (checks E s)
+
+module _ (S : Sheet) (acc : Accepted S) (horizon : ℕ) (orders : ℕ → List ℕ) (valid : ValidOrders S horizon orders) where
+  pub satisfied : Satisfied S horizon (worked S orders horizon)
+  satisfied = existence S (wired S acc) orders horizon valid
+
+  pub only : Only S horizon (worked S orders horizon)
+  only = uniqueness S (wired S acc) orders horizon valid
+
+  pub ran-worked : (bytes : ℕ) → ranSheet S horizon bytes ≡ writtenOf S (worked S orders horizon) horizon bytes
+  ran-worked =
+      written-local S (wired S acc) (watched-nodes S acc) (cellsOf S horizon) (worked S orders horizon) horizon
+      (only (cellsOf S horizon) (existence S (wired S acc) (λ t. workingOrder S) horizon (λ t h. working-order S acc)))

@@ -3,7 +3,7 @@ use mathlib.Core.List.{List, [], _∷_}
 use mathlib.Core.Path.{_≡_, refl}
 use Prim.Native.Nat.{ℕ}
 use Rattle.sheet.specs.Enumerate.{anyBelow, each}
-use Rattle.format.specs.Sheet.{sheetOf}
+use Rattle.sheet.specs.Layout.{sheetOf, firstEdition}
 use Rattle.network.specs.Timeline.{given, driveCell, latest}
 use Rattle.network.specs.Working.{unworked, work, workAll, worked}
 
@@ -16,17 +16,17 @@ gateAndMemory =
     ∷ 1 ∷ 0 ∷ 2 ∷ []
 
 -- the memory after the gate that feeds it catches 1; before it, X
-pub memory-after-gate : worked (sheetOf gateAndMemory) (λ t. 0 ∷ 1 ∷ []) 2 1 2 ≡ 1
-unfolding anyBelow each given driveCell latest unworked work workAll worked
+pub memory-after-gate : worked (sheetOf firstEdition gateAndMemory) (λ t. 0 ∷ 1 ∷ []) 2 1 2 ≡ 1
+unfolding sheetOf anyBelow each given driveCell latest unworked work workAll worked
 memory-after-gate = refl
 
-pub memory-before-gate : worked (sheetOf gateAndMemory) (λ t. 1 ∷ 0 ∷ []) 2 1 2 ≡ 2
-unfolding anyBelow each given driveCell latest unworked work workAll worked
+pub memory-before-gate : worked (sheetOf firstEdition gateAndMemory) (λ t. 1 ∷ 0 ∷ []) 2 1 2 ≡ 2
+unfolding sheetOf anyBelow each given driveCell latest unworked work workAll worked
 memory-before-gate = refl
 
 -- a module dropped from an order leaves its output's cell at X
-pub module-dropped : worked (sheetOf gateAndMemory) (λ t. 1 ∷ []) 2 1 1 ≡ 2
-unfolding anyBelow each given driveCell latest unworked work workAll worked
+pub module-dropped : worked (sheetOf firstEdition gateAndMemory) (λ t. 1 ∷ []) 2 1 1 ≡ 2
+unfolding sheetOf anyBelow each given driveCell latest unworked work workAll worked
 module-dropped = refl
 
 -- Module 0, a buffer of delay 1, drives node 1; module 1, an inverter of delay 0, drives node 2 from it.
@@ -38,10 +38,10 @@ delayedDriver =
     ∷ 1 ∷ 0 ∷ 2 ∷ []
 
 -- a zero-delay module before a delayed driver of its input reads X: its cell of this tick is not settled yet
-pub after-delayed-driver : worked (sheetOf delayedDriver) (λ t. 0 ∷ 1 ∷ []) 2 1 2 ≡ 0
-unfolding anyBelow each given driveCell latest unworked work workAll worked
+pub after-delayed-driver : worked (sheetOf firstEdition delayedDriver) (λ t. 0 ∷ 1 ∷ []) 2 1 2 ≡ 0
+unfolding sheetOf anyBelow each given driveCell latest unworked work workAll worked
 after-delayed-driver = refl
 
-pub before-delayed-driver : worked (sheetOf delayedDriver) (λ t. 1 ∷ 0 ∷ []) 2 1 2 ≡ 2
-unfolding anyBelow each given driveCell latest unworked work workAll worked
+pub before-delayed-driver : worked (sheetOf firstEdition delayedDriver) (λ t. 1 ∷ 0 ∷ []) 2 1 2 ≡ 2
+unfolding sheetOf anyBelow each given driveCell latest unworked work workAll worked
 before-delayed-driver = refl

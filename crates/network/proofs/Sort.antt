@@ -1,16 +1,17 @@
 -- Sorting by a number keeps the length and the members; where no two entries have one number it rises, and is the only rising list of these members. Assumes nothing.
-use borrow.Author.Tests.{leb-true, leb-false}
 use lib.Dec.{leb}
 use lib.ListN.{length, getD, length-map}
+use borrow.Author.Tests.{leb-true, leb-false}
 use mathlib.Core.Bool.{Bool, true, false}
 use mathlib.Core.List.{List, [], _∷_, map, List·Memᴰ, List·Memᴰ·head, List·Memᴰ·tail, List·Memᴰ·not-nil, List·Memᴰ·cases-cons, Memᴰ·cast, Memᴰ·map, Memᴰ·of-map}
 use mathlib.Core.Logic.{_↔_, _⊎_, inl, inr, Iff·rfl}
 use mathlib.Core.Path.{_≡_, refl, sym, ap, _∙_}
-use Prim.Native.Nat.{ℕ, suc, _<_}
 use native.Mathlib.Omega.{arith}
+use Prim.Native.Nat.{ℕ, suc, _<_}
 use Rattle.level.specs.Choice.{if_then_else_}
 use Rattle.network.specs.Renumbering.{insert, sort}
-use Rattle.network.proofs.Rising.{Pairs, Rising, Up, pairs-of, pairs-at, rising-pairs, rising-unique}
+use Rattle.sheet.proofs.Listed.{getD-mem}
+use Rattle.network.proofs.Rising.{Pairs, Rising, Up, pairs-at, rising-pairs, rising-unique, mem-place}
 
 module _ {ℓ} {A : Type ℓ} (by : A → ℕ) where
   insert-length : (a : A) (l : List A) → length (insert by a l) ≡ suc (length l)
@@ -75,11 +76,6 @@ module _ {ℓ} {A : Type ℓ} (by : A → ℕ) where
   sort-pairs [] p = tt
   sort-pairs (a ∷ l) p = insert-pairs a (sort by l) (sort-pairs l (p .1)) (λ b m. p .0 b (sort-mem l .0 m))
 
-  -- no two places have one number
-  pub sort-rises : (l : List A) (d : A) → ((j k : ℕ) → j < length l → k < length l → by (getD l j d) ≡ by (getD l k d) → j ≡ k) → Rising by (sort by l)
-  sort-rises l d h =
-      pairs-at (Up by) (sort by l) (sort-pairs l (pairs-of Apart l d (λ j k i b e. let s = h j k (omega arith) b e in omega arith)))
-
   -- the rising list that has the members
   pub sort-is : (l m : List A) → Rising by (sort by l) → Rising by m → ((a : A) → List·Memᴰ a l ↔ List·Memᴰ a m) → sort by l ≡ m
   sort-is l m p q e = rising-unique by (sort by l) m p q (λ a. (λ i. e a .0 (sort-mem l .0 i), λ i. sort-mem l .1 (e a .1 i)))
@@ -91,6 +87,17 @@ module _ {ℓ κ} {A : Type ℓ} {B : Type κ} (by : B → ℕ) (f : A → B) wh
 
   pub sort-map-mem : {b : B} (l : List A) → List·Memᴰ b (sort by (map f l)) ↔ ((a : A) × List·Memᴰ a l × (f a ≡ b))
   sort-map-mem l = (λ m. Memᴰ·of-map f l (sort-mem by (map f l) .0 m), λ r. sort-mem by (map f l) .1 (Memᴰ·cast (sym (r .2)) (Memᴰ·map f (r .1))))
+
+  -- the same by places; the entries past the end are never met
+  module _ (l : List A) (a : A) (b : B) where
+    pub sorted-back : (k : ℕ) → k < length (sort by (map f l)) → (i : ℕ) × (i < length l) × (f (getD l i a) ≡ getD (sort by (map f l)) k b)
+    sorted-back k h =
+        let r = sort-map-mem l .0 (getD-mem (sort by (map f l)) k b h) in
+        let p = mem-place (r .1) in
+        (p .0, p .1, ap f (p .2 a) ∙ r .2)
+
+    pub sorted-there : (i : ℕ) → i < length l → (k : ℕ) × (k < length (sort by (map f l))) × (f (getD l i a) ≡ getD (sort by (map f l)) k b)
+    sorted-there i h = let p = mem-place (sort-map-mem l .1 (getD l i a, getD-mem l i a h, refl)) in (p .0, p .1, sym (p .2 b))
 
   -- where the list rose and two of its entries get one number only if they had one
   module _ (old : A → ℕ) where

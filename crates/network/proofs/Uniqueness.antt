@@ -3,25 +3,24 @@
 use mathlib.Core.List.{List}
 use mathlib.Core.Path.{_≡_, sym, _∙_}
 use Prim.Native.Nat.{ℕ, _<_}
-use Rattle.format.specs.Sheet.{Sheet}
-use Rattle.network.specs.Parts.{nodeTotal}
-use Rattle.network.specs.Timeline.{Cells}
-use Rattle.network.specs.Satisfied.{Satisfied}
-use Rattle.network.specs.Working.{worked}
+use Rattle.sheet.specs.Sheet.{Sheet, nodeCount}
 use Rattle.network.specs.Order.{ValidOrder}
-use Rattle.network.proofs.Wired.{Wired}
+use Rattle.network.specs.Satisfied.{Satisfied}
+use Rattle.network.specs.Timeline.{Cells}
+use Rattle.network.specs.Working.{worked}
 use Rattle.network.proofs.Equation.{equation-local}
-use Rattle.network.proofs.Induction.{every-cell}
 use Rattle.network.proofs.Existence.{existence}
+use Rattle.network.proofs.Induction.{every-cell}
+use Rattle.network.proofs.Wired.{Wired}
 
 module _ (S : Sheet) (w : Wired S) (orders : ℕ → List ℕ) (horizon : ℕ) (valid : (t : ℕ) → t < horizon → ValidOrder S (orders t)) where
   -- any two that satisfy the sheet
-  pub agree : (c c′ : Cells) → Satisfied S horizon c → Satisfied S horizon c′ → (t v : ℕ) → t < horizon → v < nodeTotal S → c t v ≡ c′ t v
+  pub agree : (c c′ : Cells) → Satisfied S horizon c → Satisfied S horizon c′ → (t v : ℕ) → t < horizon → v < nodeCount S → c t v ≡ c′ t v
   agree c c′ s s′ =
       every-cell S w (λ t v. c t v ≡ c′ t v) horizon
       (λ t v h i. s .inputs t v h i ∙ sym (s′ .inputs t v h i))
       (λ t m h l read. s .modules t m h l ∙ equation-local S c c′ m t read ∙ sym (s′ .modules t m h l))
       orders valid
 
-  pub uniqueness : (c : Cells) → Satisfied S horizon c → (t v : ℕ) → t < horizon → v < nodeTotal S → c t v ≡ worked S orders horizon t v
+  pub uniqueness : (c : Cells) → Satisfied S horizon c → (t v : ℕ) → t < horizon → v < nodeCount S → c t v ≡ worked S orders horizon t v
   uniqueness c s = agree c (worked S orders horizon) s (existence S w orders horizon valid)

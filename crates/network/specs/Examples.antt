@@ -3,6 +3,7 @@ use mathlib.Core.List.{List, [], _∷_, _++_}
 use Prim.Native.Nat.{ℕ}
 use Rattle.level.specs.Level.{low, high, unknown}
 use Rattle.level.specs.Examples.{Example, is, gateExamples}
+use Rattle.sheet.specs.Layout.{firstEdition, sheetOf}
 use Rattle.network.specs.Run.{cellsOf}
 
 -- the worked run's sheet: node 0 is an input, and a NAND of delay 3 drives node 1 from node 0 and node 1
@@ -23,11 +24,11 @@ memorySheet =
 
 abbrev pub cellExamples : List Example
 cellExamples =
-    is (cellsOf workedSheet 12 2 1) unknown
-    ∷ is (cellsOf workedSheet 12 7 1) high
-    ∷ is (cellsOf workedSheet 12 8 1) low
-    ∷ is (cellsOf workedSheet 12 11 1) high
-    ∷ is (cellsOf memorySheet 6 5 2) high
+    is (cellsOf (sheetOf firstEdition workedSheet) 12 2 1) unknown
+    ∷ is (cellsOf (sheetOf firstEdition workedSheet) 12 7 1) high
+    ∷ is (cellsOf (sheetOf firstEdition workedSheet) 12 8 1) low
+    ∷ is (cellsOf (sheetOf firstEdition workedSheet) 12 11 1) high
+    ∷ is (cellsOf (sheetOf firstEdition memorySheet) 6 5 2) high
     ∷ []
 
 -- the one table

@@ -1,10 +1,10 @@
 -- What a sheet means: its cells, how they are worked, what is listed of them, and what a run answers.
-pub mod Parts
 pub mod Timeline
 pub mod Satisfied
 pub mod Working
 pub mod Order
 pub mod Listing
+pub mod Buffer
 pub mod Run
 pub mod Renumbering
 pub mod Demand2

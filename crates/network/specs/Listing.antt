@@ -1,13 +1,11 @@
 -- Document 01, "The listing": the records that cells give, and the changes pending after a tick.
 use mathlib.Core.Bool.{Bool, true, _&&_, not}
 use mathlib.Core.List.{List, [], _∷_}
-use Prim.Native.Nat.{ℕ, zero, suc, _+_}
+use Prim.Native.Nat.{ℕ, zero, suc, _+_, _*_}
 use lib.Dec.{eqb, ltb}
 use Rattle.level.specs.Choice.{if_then_else_}
-use Rattle.sheet.specs.declared.Event.{Event}
 use Rattle.sheet.specs.Enumerate.{each}
-use Rattle.format.specs.Sheet.{Sheet}
-use Rattle.network.specs.Parts.{moduleTotal, moduleIn, outputOf}
+use Rattle.sheet.specs.Sheet.{Sheet, moduleCount, moduleOf, outputOf}
 use Rattle.network.specs.Timeline.{Cells}
 
 -- a node has a first value or a change at a tick: tick 0, or a cell that differs from the one before
@@ -15,17 +13,26 @@ abbrev pub changes : Cells → ℕ → ℕ → Bool
 changes c v zero = true
 changes c v (suc t) = not (eqb (c (suc t) v) (c t v))
 
--- a record is as in the drive: tick, node, value
-abbrev pub recordOf : Cells → ℕ → ℕ → Event
+-- a record of the listing: tick, node, value
+pub record Record : Type 0 where
+  pub tick : ℕ
+  pub node : ℕ
+  pub value : ℕ
+
+-- by tick, then by node: nodes are bytes
+abbrev pub recordKey : Record → ℕ
+recordKey r = 256 * r .tick + r .node
+
+abbrev pub recordOf : Cells → ℕ → ℕ → Record
 recordOf c t v = record { tick = t; node = v; value = c t v }
 
 -- the records of a tick, over nodes that rise
-unfoldable pub recordsAt : Cells → ℕ → List ℕ → List Event
+unfoldable pub recordsAt : Cells → ℕ → List ℕ → List Record
 recordsAt c t [] = []
 recordsAt c t (v ∷ vs) = if changes c v t then recordOf c t v ∷ recordsAt c t vs else recordsAt c t vs
 
 -- the records of all ticks below a bound
-abbrev pub listing : Sheet → Cells → ℕ → List Event
+abbrev pub listing : Sheet → Cells → ℕ → List Record
 listing S c n = each n (λ t. recordsAt c t (S .watched))
 
 -- A pending change: a module and the tick at which its output changes.
@@ -36,8 +43,8 @@ pub record Pending : Type 0 where
 -- those of a module after tick t: ticks u above t, at most t + d and below the horizon, where its output's cell u differs from cell u - 1
 abbrev pub pendingOf : Sheet → Cells → ℕ → ℕ → ℕ → List Pending
 pendingOf S c horizon t m =
-    each (moduleIn S m .delay) (λ k. if ltb (t + suc k) horizon && changes c (outputOf S m) (t + suc k) then record { driver = m; due = t + suc k } ∷ [] else [])
+    each (moduleOf S m .delay) (λ k. if ltb (t + suc k) horizon && changes c (outputOf S m) (t + suc k) then record { driver = m; due = t + suc k } ∷ [] else [])
 
 -- the changes pending after tick t
 abbrev pub pending : Sheet → Cells → ℕ → ℕ → List Pending
-pending S c horizon t = each (moduleTotal S) (pendingOf S c horizon t)
+pending S c horizon t = each (moduleCount S) (pendingOf S c horizon t)

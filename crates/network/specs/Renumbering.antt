@@ -5,14 +5,16 @@ use Prim.Native.Nat.{ℕ, _<_}
 use lib.Dec.{leb, ltb}
 use Rattle.level.specs.Choice.{if_then_else_}
 use Rattle.level.specs.Rule.{inputsOf}
-use Rattle.level.specs.Kind.{ruleOf}
 use Rattle.sheet.specs.declared.Module.{Module}
 use Rattle.sheet.specs.declared.Event.{Event}
-use Rattle.sheet.specs.Layout.{nodeCount}
+use Rattle.sheet.specs.declared.Edition.{Edition}
+use Rattle.sheet.specs.Enumerate.{listed}
+use Rattle.sheet.specs.Sheet.{Sheet, nodeCount, nodeByte, moduleOf}
+use Rattle.sheet.specs.Wiring.{moduleRule}
+use Rattle.sheet.specs.Layout.{sheetOf}
 use Rattle.sheet.specs.Refusal.{key}
-use Rattle.format.specs.Sheet.{Sheet, listed, sheetOf}
 use Rattle.format.specs.Encode.{encode}
-use Rattle.network.specs.Parts.{nodeTotal, initialOf, moduleIn}
+use Rattle.network.specs.Listing.{Record, recordKey}
 
 -- a permutation of the numbers below n: each gets another, and back
 pub record Permutation (n : ℕ) : Type 0 where
@@ -35,7 +37,7 @@ sort by (a ∷ rest) = insert by a (sort by rest)
 -- outputs and used inputs are numbered anew; unused inputs stay 0, and the rest of the record stays
 abbrev pub renumberedModule : (ℕ → ℕ) → Module → Module
 renumberedModule to m =
-    let inputs = inputsOf (ruleOf (m .kind) (m .parameter)) in
+    let inputs = inputsOf (moduleRule m) in
     record {
       kind = m .kind;
       parameter = m .parameter;
@@ -53,16 +55,19 @@ renumberedEvent to e = record { tick = e .tick; node = to (e .node); value = e .
 unfoldable pub renumbered : Sheet → (to from : ℕ → ℕ) → List ℕ → Sheet
 renumbered S to from order =
     record {
-      nodes = listed (nodeTotal S) (λ w. initialOf S (from w));
-      modules = map (λ m. renumberedModule to (moduleIn S m)) order;
+      nodes = listed (nodeCount S) (λ w. nodeByte S (from w));
+      modules = map (λ m. renumberedModule to (moduleOf S m)) order;
       drive = sort key (map (renumberedEvent to) (S .drive));
       watched = sort (λ v. v) (map to (S .watched));
     }
 
 -- the bytes of P, from those of N, a permutation of its nodes and a listed order of its modules
-abbrev pub renumberedBytes : (s : List ℕ) → Permutation (nodeCount s) → List ℕ → List ℕ
-renumberedBytes s π order = encode (renumbered (sheetOf s) (π .to) (π .from) order)
+abbrev pub renumberedBytes : (e : Edition) (s : List ℕ) → Permutation (nodeCount (sheetOf e s)) → List ℕ → List ℕ
+renumberedBytes e s π order = encode e (renumbered (sheetOf e s) (π .to) (π .from) order)
 
 -- a listing is renumbered by changing only its node numbers and sorting by tick, then by node
-abbrev pub renumberedListing : (ℕ → ℕ) → List Event → List Event
-renumberedListing to records = sort key (map (renumberedEvent to) records)
+abbrev pub renumberedRecord : (ℕ → ℕ) → Record → Record
+renumberedRecord to r = record { tick = r .tick; node = to (r .node); value = r .value }
+
+abbrev pub renumberedListing : (ℕ → ℕ) → List Record → List Record
+renumberedListing to records = sort recordKey (map (renumberedRecord to) records)

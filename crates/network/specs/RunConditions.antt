@@ -4,12 +4,16 @@ use mathlib.Core.Logic.{_⊎_}
 use mathlib.Core.Path.{_≡_}
 use Prim.Native.Nat.{ℕ, suc, _<_, _≤_}
 use lib.ListN.{length}
+use Rattle.sheet.specs.declared.Edition.{Edition}
+use Rattle.sheet.specs.Limits.{greatestHorizon, pendingLimit}
 use Rattle.sheet.specs.Outcome.{finished, refused}
+use Rattle.sheet.specs.Sheet.{Sheet}
+use Rattle.sheet.specs.Layout.{sheetOf}
 use Rattle.sheet.specs.Refusal.{checked}
-use Rattle.format.specs.Sheet.{Sheet, sheetOf}
 use Rattle.network.specs.Timeline.{Cells}
 use Rattle.network.specs.Listing.{listing, pending}
-use Rattle.network.specs.Run.{room, pendingLimit, Written, wrote, cellsOf}
+use Rattle.network.specs.Buffer.{room}
+use Rattle.network.specs.Run.{Written, wrote, cellsOf}
 
 -- a tick passes: its records find room, and no more changes are pending after it than may be
 pub record Passed (S : Sheet) (c : Cells) (horizon bytes t : ℕ) : Type 0 where
@@ -17,30 +21,30 @@ pub record Passed (S : Sheet) (c : Cells) (horizon bytes t : ℕ) : Type 0 where
   pub few-pending : length (pending S c horizon t) ≤ pendingLimit
 
 -- a horizon in its range, and a sheet that the check accepts
-pub record Begins (s : List ℕ) (horizon : ℕ) : Type 0 where
+pub record Begins (e : Edition) (s : List ℕ) (horizon : ℕ) : Type 0 where
   pub some-tick : 0 < horizon
-  pub few-ticks : horizon ≤ 1000000
-  pub accepted : checked s ≡ finished 0
+  pub few-ticks : horizon ≤ greatestHorizon
+  pub accepted : checked e s ≡ finished 0
 
 -- the first tick that does not pass
-pub record FirstNotPassed (s : List ℕ) (horizon bytes t : ℕ) : Type 0 where
-  pub begins : Begins s horizon
+pub record FirstNotPassed (e : Edition) (s : List ℕ) (horizon bytes t : ℕ) : Type 0 where
+  pub begins : Begins e s horizon
   pub below : t < horizon
-  pub passed : (u : ℕ) → u < t → Passed (sheetOf s) (cellsOf s horizon) horizon bytes u
+  pub passed : (u : ℕ) → u < t → Passed (sheetOf e s) (cellsOf (sheetOf e s) horizon) horizon bytes u
 
 -- what a run has written, under the condition of its answer
-pub data RunCondition (s : List ℕ) (horizon bytes : ℕ) : Written → Type 0 where
+pub data RunCondition (e : Edition) (s : List ℕ) (horizon bytes : ℕ) : Written → Type 0 where
   -- before reading: 1 horizon 0 or above 1,000,000
-  horizon-outside : (horizon ≡ 0) ⊎ (1000000 < horizon) → RunCondition s horizon bytes (wrote (refused 1 0 0) [])
+  horizon-outside : (horizon ≡ 0) ⊎ (greatestHorizon < horizon) → RunCondition e s horizon bytes (wrote (refused 1 0 0) [])
   -- then the sheet's refusals, 2 to 18
-  sheet-refused : {n p : ℕ} → 0 < horizon → horizon ≤ 1000000 → checked s ≡ refused n p 0 → RunCondition s horizon bytes (wrote (refused n p 0) [])
+  sheet-refused : {n p : ℕ} → 0 < horizon → horizon ≤ greatestHorizon → checked e s ≡ refused n p 0 → RunCondition e s horizon bytes (wrote (refused n p 0) [])
   -- each tick, watched changes: 19 the buffer cannot take all records of this tick
-  no-room : (t : ℕ) → FirstNotPassed s horizon bytes t → room bytes < length (listing (sheetOf s) (cellsOf s horizon) (suc t))
-      → RunCondition s horizon bytes (wrote (refused 19 t (length (listing (sheetOf s) (cellsOf s horizon) t))) (listing (sheetOf s) (cellsOf s horizon) t))
+  no-room : (t : ℕ) → FirstNotPassed e s horizon bytes t → room bytes < length (listing (sheetOf e s) (cellsOf (sheetOf e s) horizon) (suc t))
+      → RunCondition e s horizon bytes (wrote (refused 19 t (length (listing (sheetOf e s) (cellsOf (sheetOf e s) horizon) t))) (listing (sheetOf e s) (cellsOf (sheetOf e s) horizon) t))
   -- each tick, then: 20 more than 4,096 changes pending after it
-  crowded : (t : ℕ) → FirstNotPassed s horizon bytes t → length (listing (sheetOf s) (cellsOf s horizon) (suc t)) ≤ room bytes
-      → pendingLimit < length (pending (sheetOf s) (cellsOf s horizon) horizon t)
-      → RunCondition s horizon bytes (wrote (refused 20 t (length (listing (sheetOf s) (cellsOf s horizon) (suc t)))) (listing (sheetOf s) (cellsOf s horizon) (suc t)))
+  crowded : (t : ℕ) → FirstNotPassed e s horizon bytes t → length (listing (sheetOf e s) (cellsOf (sheetOf e s) horizon) (suc t)) ≤ room bytes
+      → pendingLimit < length (pending (sheetOf e s) (cellsOf (sheetOf e s) horizon) horizon t)
+      → RunCondition e s horizon bytes (wrote (refused 20 t (length (listing (sheetOf e s) (cellsOf (sheetOf e s) horizon) (suc t)))) (listing (sheetOf e s) (cellsOf (sheetOf e s) horizon) (suc t)))
   -- no refusal: a finished run
-  whole : Begins s horizon → ((t : ℕ) → t < horizon → Passed (sheetOf s) (cellsOf s horizon) horizon bytes t)
-      → RunCondition s horizon bytes (wrote (finished (length (listing (sheetOf s) (cellsOf s horizon) horizon))) (listing (sheetOf s) (cellsOf s horizon) horizon))
+  whole : Begins e s horizon → ((t : ℕ) → t < horizon → Passed (sheetOf e s) (cellsOf (sheetOf e s) horizon) horizon bytes t)
+      → RunCondition e s horizon bytes (wrote (finished (length (listing (sheetOf e s) (cellsOf (sheetOf e s) horizon) horizon))) (listing (sheetOf e s) (cellsOf (sheetOf e s) horizon) horizon))

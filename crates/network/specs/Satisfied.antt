@@ -3,10 +3,10 @@
 use lib.Dec.{T}
 use mathlib.Core.Path.{_≡_}
 use Prim.Native.Nat.{ℕ, _<_}
-use Rattle.format.specs.Sheet.{Sheet}
-use Rattle.network.specs.Parts.{moduleTotal, outputOf, isInputIn}
-use Rattle.network.specs.Timeline.{Cells, driveCell, equation}
+use Rattle.sheet.specs.Sheet.{Sheet, moduleCount, outputOf}
+use Rattle.sheet.specs.Wiring.{isInput}
+use Rattle.network.specs.Timeline.{Cells, driveCell, contribution}
 
 pub record Satisfied (S : Sheet) (horizon : ℕ) (c : Cells) : Type 0 where
-  pub inputs : (t v : ℕ) → t < horizon → T (isInputIn S v) → c t v ≡ driveCell (S .drive) v t
-  pub modules : (t m : ℕ) → t < horizon → m < moduleTotal S → c t (outputOf S m) ≡ equation S c m t
+  pub inputs : (t v : ℕ) → t < horizon → T (isInput S v) → c t v ≡ driveCell (S .drive) v t
+  pub modules : (t m : ℕ) → t < horizon → m < moduleCount S → c t (outputOf S m) ≡ contribution S c m t

@@ -1,14 +1,16 @@
--- Document 01, "Time and values" and "Modules": cells, an input's cell from the drive, and a module's equation.
+-- Document 01, "Time and values" and "Modules": cells, an input's cell from the drive, and what a module gives its output node.
 use mathlib.Core.Bool.{Bool, _&&_}
-use mathlib.Core.List.{List, [], _∷_}
+use mathlib.Core.List.{List, [], _∷_, map}
 use Prim.Native.Nat.{ℕ, zero, suc, _-_}
 use lib.Dec.{eqb, ltb}
 use Rattle.level.specs.Choice.{if_then_else_}
 use Rattle.level.specs.Level.{unknown}
-use Rattle.level.specs.Rule.{Rule, fixed, one, two, hold}
+use Rattle.level.specs.Gate.{inputAt}
+use Rattle.level.specs.Rule.{Rule, gate, hold}
+use Rattle.sheet.specs.declared.Module.{Module}
 use Rattle.sheet.specs.declared.Event.{Event}
-use Rattle.format.specs.Sheet.{Sheet}
-use Rattle.network.specs.Parts.{moduleIn, outputOf, ruleIn, initialOf}
+use Rattle.sheet.specs.Sheet.{Sheet, nodeByte, moduleOf, outputOf}
+use Rattle.sheet.specs.Wiring.{moduleRule, usedInputs}
 
 -- cell t of a node is its value from just after tick t up to and including tick t + 1: by tick, then by node
 abbrev pub Cells : Type 0
@@ -42,20 +44,20 @@ abbrev pub cellAt : Timeline → ℕ → Latest → ℕ
 cellAt a initial never = initial
 cellAt a initial (at u) = a u
 
--- What a module comes to at tick u, before its delay: the rule over the inputs' cells u.
+-- What a module comes to at tick u, before its delay: the rule over its used inputs' cells u.
 -- For a memory, cell u of the first input, u being the greatest tick at which the second input's cell is in the set.
-abbrev pub comesToAt : Rule → Timeline → Timeline → ℕ → Timeline
-comesToAt (fixed v) a b initial u = v
-comesToAt (one f) a b initial u = f (a u)
-comesToAt (two f) a b initial u = f (a u) (b u)
-comesToAt (hold set) a b initial u = cellAt a initial (latest (λ w. set (b w)) u)
+abbrev pub comesToAt : Rule → (ℕ → List ℕ) → ℕ → Timeline
+comesToAt (gate n f) inputs initial u = f (inputs u)
+comesToAt (hold set) inputs initial u = cellAt (λ w. inputAt (inputs w) 0) initial (latest (λ w. set (inputAt (inputs w) 1)) u)
 
 -- Cell t of the output: that of t - d where t is at least d, and the node's initial value before.
-abbrev pub outputCell : Rule → ℕ → Timeline → Timeline → ℕ → Timeline
-outputCell rule d a b initial t = if ltb t d then initial else comesToAt rule a b initial (t - d)
+abbrev pub outputCell : Rule → ℕ → (ℕ → List ℕ) → ℕ → Timeline
+outputCell rule d inputs initial t = if ltb t d then initial else comesToAt rule inputs initial (t - d)
 
--- a module's equation over cells
-abbrev pub equation : Sheet → Cells → ℕ → Timeline
-equation S c m t =
-    outputCell (ruleIn S m) (moduleIn S m .delay) (λ u. c u (moduleIn S m .first)) (λ u. c u (moduleIn S m .second))
-    (initialOf S (outputOf S m)) t
+-- the cells of a module's used inputs at a tick
+abbrev pub inputCells : Cells → Module → ℕ → List ℕ
+inputCells c m u = map (c u) (usedInputs m)
+
+-- What a module gives its output node over cells. A node has one driver, and its equation is that its cells are those.
+abbrev pub contribution : Sheet → Cells → ℕ → Timeline
+contribution S c m t = outputCell (moduleRule (moduleOf S m)) (moduleOf S m .delay) (inputCells c (moduleOf S m)) (nodeByte S (outputOf S m)) t

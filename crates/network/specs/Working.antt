@@ -5,17 +5,17 @@ use Prim.Native.Nat.{ℕ, zero, suc}
 use lib.Dec.{eqb}
 use Rattle.level.specs.Choice.{if_then_else_}
 use Rattle.level.specs.Level.{unknown}
-use Rattle.format.specs.Sheet.{Sheet}
-use Rattle.network.specs.Parts.{outputOf, isInputIn}
-use Rattle.network.specs.Timeline.{Cells, driveCell, equation}
+use Rattle.sheet.specs.Sheet.{Sheet, outputOf}
+use Rattle.sheet.specs.Wiring.{isInput}
+use Rattle.network.specs.Timeline.{Cells, driveCell, contribution}
 
 -- At first no driven node has a settled cell: it stands at X. Inputs' cells are settled.
 unfoldable pub unworked : Sheet → Cells
-unworked S t v = if isInputIn S v then driveCell (S .drive) v t else unknown
+unworked S t v = if isInput S v then driveCell (S .drive) v t else unknown
 
 -- To work a module at a tick is to settle its output's cell of that tick by its equation over the cells as they then stand.
 unfoldable pub work : Sheet → ℕ → Cells → ℕ → Cells
-work S t c m u v = if eqb u t && eqb v (outputOf S m) then equation S c m t else c u v
+work S t c m u v = if eqb u t && eqb v (outputOf S m) then contribution S c m t else c u v
 
 -- the modules of a list, one after the other, each over the cells left so far
 unfoldable pub workAll : Sheet → ℕ → Cells → List ℕ → Cells

@@ -1,6 +1,3 @@
--- Zero-delay links between nodes, as a matrix of all pairs of nodes, and the working order that follows from it.
-pub mod Links
-pub mod WorkingOrder
+-- The working order, by ranks that are counted in a matrix.
 pub mod Grouped
 pub mod Arranged
-pub mod Records

@@ -3,54 +3,40 @@ use borrow.Author.Tests.{ltb-false}
 use mathlib.Core.Bool.{Bool, true, false}
 use mathlib.Core.List.{List, [], _∷_, _++_, append-nil, List·Memᴰ, List·Memᴰ·head, List·Memᴰ·tail}
 use mathlib.Core.Path.{_≡_, refl, ap, _∙_}
-use native.Mathlib.Nat.{zero-add}
 use native.Mathlib.Omega.{arith}
 use Prim.Native.Nat.{ℕ, zero, suc, _*_, _/_, _%_, _^_, _<_, _≤_}
 use lib.Dec.{ltb}
 use lib.ListN.{length, getD, length-append}
 use Rattle.level.specs.Choice.{if_then_else_}
 use Rattle.level.specs.Level.{printed}
-use Rattle.sheet.specs.declared.Event.{Event}
-use Rattle.sheet.specs.Enumerate.{each}
-use Rattle.sheet.specs.Layout.{eventSize}
+use Rattle.sheet.specs.Enumerate.{each, listed}
 use Rattle.sheet.proofs.Each.{each-same}
-use Rattle.format.specs.Sheet.{listed}
-use Rattle.format.specs.Encode.{eventBytes, allBytes}
-use Rattle.format.proofs.Listed.{listed-is, getD-mem, allBytes-append}
-use Rattle.format.proofs.EncodeSpan.{span-whole, stand-halves, record-stands}
-use Rattle.format.proofs.EncodeRecord.{event-read}
-use Rattle.network.specs.Run.{bufferAfter}
+use Rattle.sheet.proofs.Listed.{listed-is}
+use Rattle.format.specs.Encode.{allBytes}
+use Rattle.format.proofs.AllBytes.{allBytes-append}
+use Rattle.network.specs.Listing.{Record}
+use Rattle.network.specs.Buffer.{bufferAfter}
+use Rattle.listing.proofs.ReadBack.{read-back}
 use Rattle.text.specs.Decimal.{digit, digits, decimal}
-use Rattle.text.specs.Printing.{blank, newline, recordLine, listedRecord, recordLines}
+use Rattle.text.specs.Printing.{blank, newline, recordLine, recordLines}
 
 -- the lines of records, one after the other
-abbrev pub linesOf : List Event → List ℕ
+abbrev pub linesOf : List Record → List ℕ
 linesOf records = allBytes recordLine records
 
--- the record at a place of the listing is the one written there
-pub read-back : (records : List Event) (buffer : List ℕ) (d : Event) → ((r : Event) → List·Memᴰ r records → r .tick < 2 ^ 32) → (i : ℕ) → i < length records
-    → listedRecord (bufferAfter records buffer) i ≡ getD records i d
-unfolding bufferAfter
-read-back records buffer d small i h =
-    event-read b (eventSize * i) (getD records i d) (small (getD records i d) (getD-mem records i d h))
-    (rw zero-add at (record-stands b eventSize eventBytes (λ r. refl) 0 records d i h (stand-halves b 0 (allBytes eventBytes records) _ (span-whole b) .0)))
-  where
-    b : List ℕ
-    b = bufferAfter records buffer
-
-each-lines : (n : ℕ) (f : ℕ → Event) → each n (λ i. recordLine (f i)) ≡ linesOf (listed n f)
+each-lines : (n : ℕ) (f : ℕ → Record) → each n (λ i. recordLine (f i)) ≡ linesOf (listed n f)
 unfolding each allBytes
 each-lines zero f = refl
 each-lines (suc n) f = rw (each-lines n f, allBytes-append recordLine (listed n f) (f n ∷ []), append-nil (recordLine (f n)))
 
-pub lines-printed : (records : List Event) (buffer : List ℕ) (n : ℕ) → n ≡ length records → ((r : Event) → List·Memᴰ r records → r .tick < 2 ^ 32)
+pub lines-printed : (records : List Record) (buffer : List ℕ) (n : ℕ) → n ≡ length records → ((r : Record) → List·Memᴰ r records → r .tick < 2 ^ 32)
     → recordLines n (bufferAfter records buffer) ≡ linesOf records
 lines-printed records buffer n count small =
     each-same n _ (λ i. recordLine (getD records i none)) (λ i h. ap recordLine (read-back records buffer none small i (rw (← count) h)))
     ∙ each-lines n (λ i. getD records i none)
     ∙ ap linesOf (listed-is records none n (λ i. getD records i none) count (λ i h. refl))
   where
-    none : Event
+    none : Record
     none = record { tick = 0; node = 0; value = 0 }
 
 -- a number below a power of ten has at most so many digits
@@ -66,13 +52,13 @@ few-digits (suc most) k n h = here (ltb n 10) refl k (few-digits most) h
     here false e (suc k) rest h = rw (length-append (digits most (n / 10)) (digit (n % 10) ∷ [])) (omega (arith, rest k (n / 10) (omega (arith, h))))
 
 -- the longest line has 13 bytes: a tick of six digits and a node of three
-line-length : (r : Event) → r .tick < 1000000 → r .node < 1000 → length (recordLine r) ≤ 13
+line-length : (r : Record) → r .tick < 1000000 → r .node < 1000 → length (recordLine r) ≤ 13
 line-length r h k =
     let tick : length (decimal (r .tick)) ≤ 6 = few-digits 10 5 (r .tick) h in
     let node : length (decimal (r .node)) ≤ 3 = few-digits 10 2 (r .node) k in
     omega (arith, tick, node, length-append (decimal (r .tick) ++ blank ∷ decimal (r .node)) (blank ∷ printed (r .value) ∷ newline ∷ []), length-append (decimal (r .tick)) (blank ∷ decimal (r .node)))
 
-pub lines-length : (records : List Event) → ((r : Event) → List·Memᴰ r records → (r .tick < 1000000) × (r .node < 1000)) → length (linesOf records) ≤ 13 * length records
+pub lines-length : (records : List Record) → ((r : Record) → List·Memᴰ r records → (r .tick < 1000000) × (r .node < 1000)) → length (linesOf records) ≤ 13 * length records
 unfolding allBytes
 lines-length [] small = omega arith
 lines-length (r ∷ rs) small =

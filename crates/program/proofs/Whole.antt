@@ -5,13 +5,14 @@ use native.Mathlib.Omega.{arith}
 use Prim.Native.Nat.{ℕ, suc, _-_, _<_, _≤_}
 use lib.ListN.{length, take, drop, length-append}
 use lib.Seq.{take-all, take-at}
-use Rattle.sheet.specs.declared.Event.{Event}
+use Rattle.sheet.specs.Layout.{firstEdition, sheetOf}
 use Rattle.sheet.specs.Outcome.{Outcome, finished, refused}
 use Rattle.sheet.proofs.Rows.{finished≢refused}
-use Rattle.format.specs.Sheet.{sheetOf}
+use Rattle.format.specs.Accepted.{the-first}
 use Rattle.format.proofs.Accepted.{accepted}
-use Rattle.network.specs.Listing.{listing}
-use Rattle.network.specs.Run.{room, Written, cellsOf, ran}
+use Rattle.network.specs.Listing.{Record, listing}
+use Rattle.network.specs.Buffer.{room}
+use Rattle.network.specs.Run.{Written, cellsOf, ran}
 use Rattle.network.specs.RunConditions.{RunCondition, horizon-outside, sheet-refused, no-room, crowded, whole}
 use Rattle.network.proofs.Listing.{listing-of, watched-bytes}
 use Rattle.network.proofs.RunConditions.{run-conditions}
@@ -23,10 +24,10 @@ use Rattle.program.specs.Room.{lentBytes, textBytes}
 use Rattle.program.proofs.Lines.{linesOf, lines-printed, lines-length, few-digits, at-most-ten}
 
 -- of a finished run: the count is that of the records, which the buffer takes, and their ticks and nodes are in range
-pub record Ended (bytes n : ℕ) (records : List Event) : Type 0 where
+pub record Ended (bytes n : ℕ) (records : List Record) : Type 0 where
   pub counted : n ≡ length records
   pub fits : n ≤ room bytes
-  pub small : (r : Event) → List·Memᴰ r records → (r .tick < 1000000) × (r .node < 256)
+  pub small : (r : Record) → List·Memᴰ r records → (r .tick < 1000000) × (r .node < 256)
 
 count-of : {m n : ℕ} → finished m ≡ finished n → m ≡ n
 count-of e = ap (λ (o : Outcome). elim o [ finished k ↦ k | refused a b c ↦ 0 ]) e
@@ -35,7 +36,7 @@ last-tick : {horizon : ℕ} → 0 < horizon → suc (horizon - 1) ≡ horizon
 last-tick h = omega arith
 
 module _ (s : List ℕ) (horizon bytes : ℕ) where
-  ended-so : (n : ℕ) (w : Written) → RunCondition s horizon bytes w → w .answer ≡ finished n → Ended bytes n (w .records)
+  ended-so : (n : ℕ) (w : Written) → RunCondition firstEdition s horizon bytes w → w .answer ≡ finished n → Ended bytes n (w .records)
   ended-so n w (horizon-outside h) e = absurd (finished≢refused (sym e))
   ended-so n w (sheet-refused h k r) e = absurd (finished≢refused (sym e))
   ended-so n w (no-room t f o) e = absurd (finished≢refused (sym e))
@@ -43,15 +44,16 @@ module _ (s : List ℕ) (horizon bytes : ℕ) where
   ended-so n w (whole b all) e =
       record {
         counted = sym (count-of e);
-        fits = omega (arith, count-of e, subst (λ k. length (listing (sheetOf s) (cellsOf s horizon) k) ≤ room bytes) (last-tick (b .some-tick)) (all (horizon - 1) (omega (arith, b .some-tick)) .room-left));
+        fits = omega (arith, count-of e, subst (λ k. length (listing (sheetOf firstEdition s) (cellsOf (sheetOf firstEdition s) horizon) k) ≤ room bytes) (last-tick (b .some-tick)) (all (horizon - 1) (omega (arith, b .some-tick)) .room-left));
         small = λ r m.
-            let acc = accepted s (b .accepted) in
-            let shown = listing-of s acc (cellsOf s horizon) horizon .shown r m in
-            (omega (arith, shown .below, b .few-ticks), watched-bytes s acc (r .node) (shown .watched));
+            let S = sheetOf firstEdition s in
+            let acc = accepted firstEdition the-first s (b .accepted) .sheet in
+            let shown = listing-of S acc (cellsOf S horizon) horizon .shown r m in
+            (omega (arith, shown .below, b .few-ticks), watched-bytes S acc (r .node) (shown .watched));
       }
 
-  pub ended : (n : ℕ) → ran s horizon bytes .answer ≡ finished n → Ended bytes n (ran s horizon bytes .records)
-  ended n = ended-so n (ran s horizon bytes) (run-conditions s horizon bytes (ran s horizon bytes) .0 refl)
+  pub ended : (n : ℕ) → ran firstEdition s horizon bytes .answer ≡ finished n → Ended bytes n (ran firstEdition s horizon bytes .records)
+  ended n = ended-so n (ran firstEdition s horizon bytes) (run-conditions firstEdition s horizon bytes (ran firstEdition s horizon bytes) .0 refl)
 
 module _ (input listing : List ℕ) where
   abbrev run : Written

@@ -3,7 +3,9 @@ use mathlib.Core.List.{List}
 use Prim.Native.Nat.{ℕ}
 use lib.ListN.{length, take, drop}
 use Rattle.sheet.specs.Bytes.{longAt}
-use Rattle.network.specs.Run.{Written, ran, bufferAfter}
+use Rattle.sheet.specs.Layout.{firstEdition}
+use Rattle.network.specs.Buffer.{bufferAfter}
+use Rattle.network.specs.Run.{Written, ran}
 use Rattle.text.specs.Printing.{printedText}
 
 -- the horizon: 4 bytes, missing ones being 0
@@ -20,9 +22,9 @@ sheetLimit = 8457
 abbrev pub sheetIn : List ℕ → List ℕ
 sheetIn input = take sheetLimit (drop horizonSize input)
 
--- the run of an input over a lent listing of so many bytes
+-- the run of an input, a sheet of document 01's edition, over a lent listing of so many bytes
 abbrev pub runOf : List ℕ → ℕ → Written
-runOf input bytes = ran (sheetIn input) (horizonIn input) bytes
+runOf input bytes = ran firstEdition (sheetIn input) (horizonIn input) bytes
 
 -- the listing afterwards, and what is printed
 abbrev pub listingOf : List ℕ → List ℕ → List ℕ

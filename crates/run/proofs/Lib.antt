@@ -1,14 +1,4 @@
--- What the functions' proofs share.
-pub mod FreshLists
-pub mod Passes
-pub mod Rules
-pub mod Values
-pub mod Pending
-pub mod Drive
-pub mod Loading
-pub mod Loaded
-pub mod GateRows
-pub mod Quiet
-pub mod Worked
-pub mod Going
+-- The laws of this crate that belong to no one function.
 pub mod Begun
+pub mod Going
+pub mod Held

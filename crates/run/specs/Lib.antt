@@ -1,9 +1,2 @@
--- What the passes of a tick rest on.
-pub mod Drive
-pub mod Fit
-pub mod Gates
-pub mod Load
+-- What the ticks of a run rest on.
 pub mod Ready
-pub mod Shape
-pub mod Step
-pub mod Tick

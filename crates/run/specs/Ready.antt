@@ -1,27 +1,30 @@
--- What a run's ticks rest on when they begin.
+-- What a run's ticks rest on when they begin: the arrays hold an accepted sheet.
 use mathlib.Core.List.{List}
 use mathlib.Core.Path.{_≡_}
 use Prim.Native.Nat.{ℕ, _<_, _≤_}
 use lib.ListN.{length, take}
-use Rattle.sheet.specs.Layout.{moduleCount, watchedCount, watchedNode}
+use Rattle.sheet.specs.Limits.{greatestHorizon}
+use Rattle.sheet.specs.Sheet.{Sheet}
+use Rattle.sheet.specs.WorkingOrder.{inWorkingOrder}
 use Rattle.format.specs.Accepted.{Accepted}
-use Rattle.format.specs.Sheet.{listed}
-use Rattle.model.specs.State.{State}
-use Rattle.model.specs.Ticks.{Loaded}
-use Rattle.run.specs.Fit.{AllKnown}
-use Rattle.run.specs.Shape.{ShapeOf}
-use Rattle.run.specs.declared.work.Shape.{Shape}
+use Rattle.model.specs.State.{State, delayedCount}
+use Rattle.model.specs.Ticks.{Begun}
+use Rattle.pending.specs.FlatLaws.{flat}
+use Rattle.tick.specs.declared.Shape.{Shape}
+use Rattle.tick.specs.Tables.{modulesIn, driveIn}
 
 -- the state in the run's arrays, with so many changes pending
-abbrev pub kept : List ℕ → List ℕ → List ℕ → List ℕ → ℕ → State
-kept values last shown pending count = record { values = values; last = last; shown = shown; pending = take count pending }
+abbrev pub kept : List ℕ → List ℕ → List ℕ → List ℕ → ℕ → State flat
+kept values last shown store count = record { values = values; last = last; shown = shown; pending = take count store }
 
-pub record Ready (s table delays watched : List ℕ) (st : State) (horizon : ℕ) (shape : Shape) : Type 0 where
-  pub accepted : Accepted s
+pub record Ready (S : Sheet) (table delays times nodes levels watched : List ℕ) (st : State flat) (horizon : ℕ) (shape : Shape) (count : ℕ) : Type 0 where
+  pub accepted : Accepted S
   pub some-tick : 0 < horizon
-  pub few-ticks : horizon ≤ 1000000
-  pub counts : ShapeOf s shape
-  pub loaded : Loaded s table delays st
-  pub known : AllKnown table (moduleCount s)
+  pub few-ticks : horizon ≤ greatestHorizon
+  pub modules : modulesIn table delays (shape .modules) ≡ inWorkingOrder S
+  pub delayed : shape .delayed ≡ delayedCount S
+  pub drive : driveIn times nodes levels (shape .events) ≡ S .drive
   pub watched-size : length watched ≡ 256
-  pub watched-there : take (shape .watched) watched ≡ listed (watchedCount s) (watchedNode s)
+  pub watched-there : take count watched ≡ S .watched
+  pub watched-few : count ≤ 256
+  pub begun : Begun flat S st

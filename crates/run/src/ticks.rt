@@ -1,35 +1,41 @@
 // The ticks in turn, until one is refused or the horizon is reached.
-use crate::list::Step;
-use crate::list::list;
-use crate::work::Shape;
-use crate::work::Standing;
-use crate::work::work;
+use listing::Step;
+use listing::list;
+use pending::Store;
 use sheet::Answer;
+use tick::Shape;
+use tick::Standing;
+use tick::work;
 ghost use mathlib.Core.Path.{_≡_};
 ghost use lib.ListN.{length};
+ghost use Rattle.level.specs.Table.{tables};
 ghost use Rattle.sheet.specs.Outcome.{outcomeOf};
-ghost use Rattle.network.specs.Run.{ran, bufferAfter};
-ghost use Rattle.run.specs.Gates.{Gates};
+ghost use Rattle.sheet.specs.Sheet.{Sheet};
+ghost use Rattle.network.specs.Run.{ranSheet, Leaves};
+ghost use Rattle.pending.specs.Flat.{places};
 ghost use Rattle.run.specs.Ready.{kept, Ready};
 
+// For every sheet that the arrays are ready for, the run is that sheet's.
 pub(crate) fn ticks(
-    s: &[u8],
     shape: Shape,
     horizon: u32,
-    gates: &[u8; 256],
+    gates: &[u8; 104],
     table: &[u8; 2048],
     delays: &[u16; 256],
+    times: &[u32; 1024],
+    nodes: &[u8; 1024],
+    levels: &[u8; 1024],
     watched: &[u8; 256],
+    count: usize,
     values: &mut [u8; 256],
     last: &mut [u8; 256],
     shown: &mut [u8; 256],
-    pending: &mut [u32; 4352],
+    store: &mut Store,
     listing: &mut [u8],
 ) -> Answer
-    requires { ⌜ Ready (now s) (now table) (now delays) (now watched) (kept (now values) (now last) (now shown) (now pending) 0) horizon shape × Gates (now gates) × (length (now pending) ≡ 4352) ⌝ }
-    ensures { λ r. ⌜ (outcomeOf r ≡ ran (now (s .entry)) horizon (length (now (listing .entry))) .answer) × (now (listing .exit) ≡ bufferAfter (ran (now (s .entry)) horizon (length (now (listing .entry))) .records) (now (listing .entry))) ⌝ }
+    requires { ⌜ ((S : Sheet) × Ready S (now table) (now delays) (now times) (now nodes) (now levels) (now watched) (kept (now values) (now last) (now shown) (now store) 0) horizon shape count) × (now gates ≡ tables) × (length (now store) ≡ places) ⌝ }
+    ensures { λ r. ⌜ ((S : Sheet) → Ready S (now (table .entry)) (now (delays .entry)) (now (times .entry)) (now (nodes .entry)) (now (levels .entry)) (now (watched .entry)) (kept (now (values .entry)) (now (last .entry)) (now (shown .entry)) (now (store .entry)) 0) horizon shape count → Leaves (ranSheet S horizon (length (now (listing .entry)))) (now (listing .entry)) (outcomeOf r) (now (listing .exit))) ⌝ }
 {
-    let count = shape.watched;
     let mut t: u32 = 0;
     let mut next: u16 = 0;
     let mut due: usize = 0;
@@ -37,16 +43,18 @@ pub(crate) fn ticks(
     while t < horizon {
         let before = Standing { next, pending: due };
         let after = work(
-            s,
             shape,
             horizon,
             t,
             gates,
             table,
             delays,
+            times,
+            nodes,
+            levels,
             values,
             last,
-            pending,
+            store,
             before,
         );
         next = after.next;

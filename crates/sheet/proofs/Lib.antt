@@ -2,5 +2,8 @@
 pub mod Computed
 pub mod Tests
 pub mod Each
+pub mod Listed
+pub mod Parts
+pub mod Held
 pub mod Rows
 pub mod Read

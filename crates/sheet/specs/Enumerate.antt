@@ -17,3 +17,7 @@ anyBelow (suc n) f = anyBelow n f || f n
 unfoldable pub each {ℓ} : {A : Type ℓ} → ℕ → (ℕ → List A) → List A
 each zero f = []
 each (suc n) f = each n f ++ f n
+
+-- what f gives at each number below the bound
+abbrev pub listed {ℓ} : {A : Type ℓ} → ℕ → (ℕ → A) → List A
+listed n f = each n (λ i. f i ∷ [])

@@ -1,76 +1,92 @@
--- Document 01, "The sheet": four sections in this order, each after its count of two bytes, and the records in them.
+-- Document 01, "The sheet": four sections in this order, each after its count of two bytes, and the records in them, as bytes.
+-- An edition of the sheet fixes a module record's size and the greatest kind; this is all that tells editions apart.
 use mathlib.Core.List.{List}
 use Prim.Native.Nat.{ℕ, _+_, _*_}
+use Rattle.level.specs.Kind.{lastKind}
+use Rattle.sheet.specs.declared.Edition.{Edition}
 use Rattle.sheet.specs.declared.Module.{Module}
 use Rattle.sheet.specs.declared.Event.{Event}
 use Rattle.sheet.specs.Bytes.{byteAt, wordAt, longAt}
+use Rattle.sheet.specs.Enumerate.{listed}
+use Rattle.sheet.specs.Sheet.{Sheet}
 
--- the sizes of a count, and of a module's and an event's record; a node's and a watched node's is one byte
+-- document 01's edition
+abbrev pub firstEdition : Edition
+firstEdition = record { size = 7; greatest = lastKind }
+
+-- the sizes of a count and of an event's record; a node's and a watched node's is one byte
 abbrev pub countSize : ℕ
 countSize = 2
-
-abbrev pub moduleSize : ℕ
-moduleSize = 7
 
 abbrev pub eventSize : ℕ
 eventSize = 6
 
 -- nodes: their count stands first
-abbrev pub nodeCount : List ℕ → ℕ
-nodeCount s = wordAt s 0
+abbrev pub nodesCounted : List ℕ → ℕ
+nodesCounted s = wordAt s 0
 
 abbrev pub nodePlace : ℕ → ℕ
 nodePlace v = countSize + v
 
--- the byte of a node: its initial value, or 4 for an input
-abbrev pub nodeByte : List ℕ → ℕ → ℕ
-nodeByte s v = byteAt s (nodePlace v)
+abbrev pub nodeAt : List ℕ → ℕ → ℕ
+nodeAt s v = byteAt s (nodePlace v)
 
 -- modules: kind, parameter, output node, first input, second input, delay
 abbrev pub modulesPlace : List ℕ → ℕ
-modulesPlace s = countSize + nodeCount s
+modulesPlace s = countSize + nodesCounted s
 
-abbrev pub moduleCount : List ℕ → ℕ
-moduleCount s = wordAt s (modulesPlace s)
+abbrev pub modulesCounted : List ℕ → ℕ
+modulesCounted s = wordAt s (modulesPlace s)
 
-abbrev pub modulePlace : List ℕ → ℕ → ℕ
-modulePlace s m = modulesPlace s + countSize + moduleSize * m
+abbrev pub modulePlace : Edition → List ℕ → ℕ → ℕ
+modulePlace e s m = modulesPlace s + countSize + e .size * m
 
 abbrev pub moduleRecord : List ℕ → ℕ → Module
-moduleRecord s p = record { kind = byteAt s p; parameter = byteAt s (p + 1); output = byteAt s (p + 2); first = byteAt s (p + 3); second = byteAt s (p + 4); delay = wordAt s (p + 5) }
+moduleRecord s p =
+    record { kind = byteAt s p; parameter = byteAt s (p + 1); output = byteAt s (p + 2); first = byteAt s (p + 3); second = byteAt s (p + 4); delay = wordAt s (p + 5) }
 
-abbrev pub moduleOf : List ℕ → ℕ → Module
-moduleOf s m = moduleRecord s (modulePlace s m)
+abbrev pub moduleAt : Edition → List ℕ → ℕ → Module
+moduleAt e s m = moduleRecord s (modulePlace e s m)
 
 -- drive: tick, input node, value
-abbrev pub drivePlace : List ℕ → ℕ
-drivePlace s = modulesPlace s + countSize + moduleSize * moduleCount s
+abbrev pub drivePlace : Edition → List ℕ → ℕ
+drivePlace e s = modulePlace e s (modulesCounted s)
 
-abbrev pub eventCount : List ℕ → ℕ
-eventCount s = wordAt s (drivePlace s)
+abbrev pub eventsCounted : Edition → List ℕ → ℕ
+eventsCounted e s = wordAt s (drivePlace e s)
 
-abbrev pub eventPlace : List ℕ → ℕ → ℕ
-eventPlace s e = drivePlace s + countSize + eventSize * e
+abbrev pub eventPlace : Edition → List ℕ → ℕ → ℕ
+eventPlace e s k = drivePlace e s + countSize + eventSize * k
 
 abbrev pub eventRecord : List ℕ → ℕ → Event
 eventRecord s p = record { tick = longAt s p; node = byteAt s (p + 4); value = byteAt s (p + 5) }
 
-abbrev pub eventOf : List ℕ → ℕ → Event
-eventOf s e = eventRecord s (eventPlace s e)
+abbrev pub eventAt : Edition → List ℕ → ℕ → Event
+eventAt e s k = eventRecord s (eventPlace e s k)
 
 -- watched
-abbrev pub watchedPlace : List ℕ → ℕ
-watchedPlace s = drivePlace s + countSize + eventSize * eventCount s
+abbrev pub watchedPlace : Edition → List ℕ → ℕ
+watchedPlace e s = eventPlace e s (eventsCounted e s)
 
-abbrev pub watchedCount : List ℕ → ℕ
-watchedCount s = wordAt s (watchedPlace s)
+abbrev pub watchedCounted : Edition → List ℕ → ℕ
+watchedCounted e s = wordAt s (watchedPlace e s)
 
-abbrev pub watchPlace : List ℕ → ℕ → ℕ
-watchPlace s k = watchedPlace s + countSize + k
+abbrev pub watchPlace : Edition → List ℕ → ℕ → ℕ
+watchPlace e s k = watchedPlace e s + countSize + k
 
-abbrev pub watchedNode : List ℕ → ℕ → ℕ
-watchedNode s k = byteAt s (watchPlace s k)
+abbrev pub watchedAt : Edition → List ℕ → ℕ → ℕ
+watchedAt e s k = byteAt s (watchPlace e s k)
 
 -- the place after the last section
-abbrev pub sheetEnd : List ℕ → ℕ
-sheetEnd s = watchedPlace s + countSize + watchedCount s
+abbrev pub sheetEnd : Edition → List ℕ → ℕ
+sheetEnd e s = watchPlace e s (watchedCounted e s)
+
+-- the sheet that stands in the bytes
+unfoldable pub sheetOf : Edition → List ℕ → Sheet
+sheetOf e s =
+    record {
+      nodes = listed (nodesCounted s) (nodeAt s);
+      modules = listed (modulesCounted s) (moduleAt e s);
+      drive = listed (eventsCounted e s) (eventAt e s);
+      watched = listed (watchedCounted e s) (watchedAt e s);
+    }

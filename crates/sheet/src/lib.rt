@@ -1,27 +1,22 @@
 // The sheet's bytes: its records, and reading them.
 ghost use mathlib.Core.Path.{_≡_};
-ghost use Prim.Native.Nat.{ℕ};
-ghost use Rattle.level.specs.Rule.{inputsOf};
-ghost use Rattle.level.specs.Kind.{ruleOf};
 ghost use Rattle.sheet.specs.Bytes.{byteAt, wordAt, longAt};
-ghost use Rattle.sheet.specs.Layout.{moduleRecord, eventRecord};
+ghost use Rattle.sheet.specs.Layout.{firstEdition, moduleRecord, eventRecord};
 ghost use Rattle.sheet.specs.Reading.{countRead, nodeRead, moduleRead, eventRead};
 
-// The sizes of a count, and of a module's and an event's record; a node's and a watched node's is one byte.
-pub const COUNT_SIZE: u16 = 2;
+// The sizes of a count and of an event's record; a node's and a watched node's is one byte.
+pub const COUNT_SIZE: u32 = 2;
 
-pub const MODULE_SIZE: u16 = 7;
+pub const EVENT_SIZE: u32 = 6;
 
-pub const EVENT_SIZE: u16 = 6;
+// The same, to compare with lengths.
+const COUNT_BYTES: usize = COUNT_SIZE as usize;
 
-// The same, to compare with lengths. A record of the listing is laid out as an event's.
-pub const COUNT_BYTES: usize = COUNT_SIZE as usize;
+const EVENT_BYTES: usize = EVENT_SIZE as usize;
 
-const MODULE_BYTES: usize = MODULE_SIZE as usize;
+// The ranges of the counts.
+pub const LEAST_NODES: u16 = 1;
 
-pub const EVENT_BYTES: usize = EVENT_SIZE as usize;
-
-// The most of each section's records.
 pub const MOST_NODES: u16 = 256;
 
 pub const MOST_MODULES: u16 = 256;
@@ -30,18 +25,36 @@ pub const MOST_EVENTS: u16 = 1024;
 
 pub const MOST_WATCHED: u16 = 256;
 
-// The byte of a node that is an input.
+// The byte of a node that is an input, and the greatest value of a cell.
 pub const INPUT: u8 = 4;
 
-// A memory's kind, which is the last one.
-pub const MEMORY: u8 = 9;
-
-pub const LAST_KIND: u8 = MEMORY;
+pub const LAST_VALUE: u8 = 3;
 
 // The longest delay, and the last tick of an event.
 pub const LONGEST_DELAY: u16 = 10000;
 
 pub const LAST_TICK: u32 = 999999;
+
+// The greatest horizon, and the most changes that may be pending after a tick.
+pub const GREATEST_HORIZON: u32 = 1000000;
+
+pub const PENDING_LIMIT: usize = 4096;
+
+// What tells editions of the sheet apart: a module record's size in bytes, and the greatest kind.
+pub struct Edition {
+    pub size: u8,
+    pub greatest: u8,
+}
+
+// Document 01's edition.
+pub fn first_edition() -> Edition
+    ensures { λ r. ⌜ r ≡ firstEdition ⌝ }
+{
+    Edition {
+        size: 7,
+        greatest: level::LAST_KIND,
+    }
+}
 
 // What every public call answers.
 pub enum Answer {
@@ -97,7 +110,7 @@ pub fn byte(s: &[u8], p: usize) -> u8
 }
 
 // The number of two bytes at a place.
-pub fn word(s: &[u8], p: u16) -> u16
+pub fn word(s: &[u8], p: u32) -> u16
     ensures { λ r. ⌜ r ≡ wordAt (now (s .entry)) p ⌝ }
 {
     let at = p as usize;
@@ -105,7 +118,7 @@ pub fn word(s: &[u8], p: u16) -> u16
 }
 
 // The number of four bytes at a place.
-fn long(s: &[u8], p: u16) -> u32
+fn long(s: &[u8], p: u32) -> u32
     ensures { λ r. ⌜ r ≡ longAt (now (s .entry)) p ⌝ }
 {
     let at = p as usize;
@@ -113,7 +126,7 @@ fn long(s: &[u8], p: u16) -> u32
 }
 
 // The count at a place.
-pub fn count_at(s: &[u8], p: u16) -> CountRead
+pub fn count_at(s: &[u8], p: u32) -> CountRead
     ensures { λ r. ⌜ r ≡ countRead (now (s .entry)) p ⌝ }
 {
     if s.len() < (p as usize) + COUNT_BYTES {
@@ -124,7 +137,7 @@ pub fn count_at(s: &[u8], p: u16) -> CountRead
 }
 
 // The node, or watched node, at a place.
-pub fn node_at(s: &[u8], p: u16) -> NodeRead
+pub fn node_at(s: &[u8], p: u32) -> NodeRead
     ensures { λ r. ⌜ r ≡ nodeRead (now (s .entry)) p ⌝ }
 {
     if s.len() < (p as usize) + 1 {
@@ -135,7 +148,7 @@ pub fn node_at(s: &[u8], p: u16) -> NodeRead
 }
 
 // The module's record at a place, and zeros past the end.
-pub fn module_record(s: &[u8], p: u16) -> Module
+pub fn module_record(s: &[u8], p: u32) -> Module
     ensures { λ r. ⌜ r ≡ moduleRecord (now (s .entry)) p ⌝ }
 {
     let at = p as usize;
@@ -150,10 +163,10 @@ pub fn module_record(s: &[u8], p: u16) -> Module
     }
 }
 
-pub fn module_at(s: &[u8], p: u16) -> ModuleRead
-    ensures { λ r. ⌜ r ≡ moduleRead (now (s .entry)) p ⌝ }
+pub fn module_at(e: Edition, s: &[u8], p: u32) -> ModuleRead
+    ensures { λ r. ⌜ r ≡ moduleRead e (now (s .entry)) p ⌝ }
 {
-    if s.len() < (p as usize) + MODULE_BYTES {
+    if s.len() < (p as usize) + (e.size as usize) {
         ModuleRead::Short
     } else {
         ModuleRead::Whole(module_record(s, p))
@@ -161,7 +174,7 @@ pub fn module_at(s: &[u8], p: u16) -> ModuleRead
 }
 
 // The event's record at a place, and zeros past the end.
-pub fn event_record(s: &[u8], p: u16) -> Event
+pub fn event_record(s: &[u8], p: u32) -> Event
     ensures { λ r. ⌜ r ≡ eventRecord (now (s .entry)) p ⌝ }
 {
     let at = p as usize;
@@ -172,7 +185,7 @@ pub fn event_record(s: &[u8], p: u16) -> Event
     }
 }
 
-pub fn event_at(s: &[u8], p: u16) -> EventRead
+pub fn event_at(s: &[u8], p: u32) -> EventRead
     ensures { λ r. ⌜ r ≡ eventRead (now (s .entry)) p ⌝ }
 {
     if s.len() < (p as usize) + EVENT_BYTES {
@@ -182,13 +195,19 @@ pub fn event_at(s: &[u8], p: u16) -> EventRead
     }
 }
 
-// How many inputs each kind uses, from the first on.
-const INPUTS: [u8; 10] = [0, 1, 1, 2, 2, 2, 2, 2, 2, 2];
+// How many records each section has.
+pub struct Counts {
+    pub nodes: u16,
+    pub modules: u16,
+    pub events: u16,
+    pub watched: u16,
+}
 
-// How many inputs a kind uses; a kind that no table has uses none.
-pub fn inputs(kind: u8) -> u8
-    ensures { λ r. ⌜ ((parameter : ℕ) → r ≡ inputsOf (ruleOf kind parameter)) ⌝ }
-{
-    let k = kind as usize;
-    if k < 10 { INPUTS[k] } else { 0 }
+// What a sheet holds: the records of its sections. Past the counts they are zeros.
+pub struct Contents {
+    pub counts: Counts,
+    pub nodes: [u8; 256],
+    pub modules: [Module; 256],
+    pub drive: [Event; 1024],
+    pub watched: [u8; 256],
 }

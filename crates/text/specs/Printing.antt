@@ -1,11 +1,11 @@
 -- Document 01, "The program and one complete run": what is printed of an answer and the listing's bytes.
 use mathlib.Core.List.{List, [], _∷_, _++_}
-use Prim.Native.Nat.{ℕ, _*_, _^_}
+use Prim.Native.Nat.{ℕ, _*_}
 use Rattle.level.specs.Level.{printed}
-use Rattle.sheet.specs.declared.Event.{Event}
 use Rattle.sheet.specs.Enumerate.{each}
-use Rattle.sheet.specs.Layout.{eventSize, eventRecord}
 use Rattle.sheet.specs.Outcome.{Outcome, finished, refused}
+use Rattle.network.specs.Listing.{Record}
+use Rattle.network.specs.Buffer.{recordSize, recordIn}
 use Rattle.text.specs.Decimal.{decimal}
 
 abbrev pub blank : ℕ
@@ -22,16 +22,12 @@ abbrev pub refusedWord : List ℕ
 refusedWord = 114 ∷ 101 ∷ 102 ∷ 117 ∷ 115 ∷ 101 ∷ 100 ∷ []
 
 -- tick, node, value: the first two in decimal and the value as 0, 1, X or Z
-abbrev pub recordLine : Event → List ℕ
-recordLine e = decimal (e .tick) ++ blank ∷ decimal (e .node) ++ blank ∷ printed (e .value) ∷ newline ∷ []
+abbrev pub recordLine : Record → List ℕ
+recordLine r = decimal (r .tick) ++ blank ∷ decimal (r .node) ++ blank ∷ printed (r .value) ∷ newline ∷ []
 
--- a record of the listing is laid out as in the drive
-abbrev pub listedRecord : List ℕ → ℕ → Event
-listedRecord listing i = eventRecord listing (eventSize * i)
-
--- the end of all the records that a count of 32 bits can reach
-abbrev pub recordsEnd : ℕ
-recordsEnd = eventSize * 2 ^ 32
+-- the record of a number in the listing
+abbrev pub listedRecord : List ℕ → ℕ → Record
+listedRecord listing i = recordIn listing (recordSize * i)
 
 -- a line per record, of as many as are counted
 abbrev pub recordLines : ℕ → List ℕ → List ℕ

@@ -3,13 +3,10 @@ use crate::put::put;
 use crate::put::put_decimal;
 use crate::put::put_field;
 use level::Level;
-use sheet::EVENT_BYTES;
+use listing::record_at;
 ghost use mathlib.Core.Path.{_≡_};
-ghost use Prim.Native.Nat.{_<_};
 ghost use Rattle.level.specs.Level.{printed};
-ghost use Rattle.sheet.specs.Bytes.{longAt};
-ghost use Rattle.sheet.specs.Layout.{eventRecord};
-ghost use Rattle.text.specs.Printing.{recordsEnd, recordLine, recordLines};
+ghost use Rattle.text.specs.Printing.{recordLine, listedRecord, recordLines};
 ghost use Rattle.text.specs.Lent.{Prints};
 
 // The byte that prints a value, of a byte that need not be one: as X where it is none.
@@ -23,25 +20,14 @@ fn value_byte(value: u8) -> u8
     }
 }
 
-// The number of four bytes at a place.
-fn long(s: &[u8], p: usize) -> u32
-    requires { ⌜ p < recordsEnd ⌝ }
-    ensures { λ r. ⌜ r ≡ longAt (now (s .entry)) p ⌝ }
+// Puts the line of record number i of the listing: tick, node, value.
+fn put_record(text: &mut [u8], at: usize, listing: &[u8], i: u32) -> usize
+    ensures { λ r. ⌜ Prints (recordLine (listedRecord (now (listing .entry)) i)) (now (text .entry)) at (now (text .exit)) r ⌝ }
 {
-    (sheet::byte(s, p) as u32)
-        + 256 * (sheet::byte(s, p + 1) as u32)
-        + 65536 * (sheet::byte(s, p + 2) as u32)
-        + 16777216 * (sheet::byte(s, p + 3) as u32)
-}
-
-// Puts the line of the record at a place of the listing: tick, node, value.
-fn put_record(text: &mut [u8], at: usize, listing: &[u8], p: usize) -> usize
-    requires { ⌜ p < recordsEnd ⌝ }
-    ensures { λ r. ⌜ Prints (recordLine (eventRecord (now (listing .entry)) p)) (now (text .entry)) at (now (text .exit)) r ⌝ }
-{
-    let tick = long(listing, p);
-    let node = sheet::byte(listing, p + 4) as u32;
-    let value = value_byte(sheet::byte(listing, p + 5));
+    let record = record_at(listing, i);
+    let tick = record.tick;
+    let node = record.node as u32;
+    let value = value_byte(record.value);
     let second = put_decimal(text, at, tick);
     let third = put_field(text, second, node);
     let last = put(text, third, b' ');
@@ -56,7 +42,7 @@ pub(crate) fn put_lines(text: &mut [u8], at: usize, count: u32, listing: &[u8]) 
     let mut to = at;
     let mut i: u32 = 0;
     while i < count {
-        to = put_record(text, to, listing, EVENT_BYTES * (i as usize));
+        to = put_record(text, to, listing, i);
         i += 1;
     }
     to

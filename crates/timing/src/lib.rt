@@ -1,26 +1,37 @@
 // The library: what users call, and what each call promises.
 pub use sheet::Answer;
+use sheet::Edition;
 ghost use mathlib.Core.Path.{_≡_};
-ghost use lib.ListN.{length};
+ghost use Rattle.sheet.specs.Layout.{firstEdition};
 ghost use Rattle.sheet.specs.Outcome.{outcomeOf};
 ghost use Rattle.sheet.specs.Refusal.{checked};
-ghost use Rattle.network.specs.Run.{ran, bufferAfter};
+ghost use Rattle.network.specs.Run.{RunLeaves};
 
-// Checks a sheet without running it: refusals 2 to 18, or a finished call with count 0.
-pub fn check(sheet: &[u8]) -> Answer
-    ensures { λ r. ⌜ outcomeOf r ≡ checked (now (sheet .entry)) ⌝ }
+// Checks a sheet of an edition: the refusals of its bytes, and then its zero-delay loops.
+fn check_in(edition: Edition, bytes: &[u8]) -> Answer
+    ensures { λ r. ⌜ outcomeOf r ≡ checked edition (now (bytes .entry)) ⌝ }
 {
-    let contents = refusals::read_sheet(sheet);
-    let a = contents.answer;
+    let read = reader::read_sheet(edition, bytes);
+    let a = read.answer;
     let Answer::Ran(_) = a else {
         return a;
     };
-    order::loop_refusal(sheet)
+    let contents = read.contents;
+    let modules = contents.modules;
+    let counts = contents.counts;
+    reach::loop_refusal(modules, counts.modules, counts.nodes)
+}
+
+// Checks a sheet without running it: refusals 2 to 18, or a finished call with count 0.
+pub fn check(sheet: &[u8]) -> Answer
+    ensures { λ r. ⌜ outcomeOf r ≡ checked firstEdition (now (sheet .entry)) ⌝ }
+{
+    check_in(sheet::first_edition(), sheet)
 }
 
 // Runs a sheet to a horizon: refusals 1 to 20, or a finished run with the count of its records. The listing's records stand first in the buffer; bytes past them are as they were.
 pub fn run(sheet: &[u8], horizon: u32, listing: &mut [u8]) -> Answer
-    ensures { λ r. ⌜ (outcomeOf r ≡ ran (now (sheet .entry)) horizon (length (now (listing .entry))) .answer) × (now (listing .exit) ≡ bufferAfter (ran (now (sheet .entry)) horizon (length (now (listing .entry))) .records) (now (listing .entry))) ⌝ }
+    ensures { λ r. ⌜ RunLeaves firstEdition (now (sheet .entry)) horizon (now (listing .entry)) (outcomeOf r) (now (listing .exit)) ⌝ }
 {
-    run::run(sheet, horizon, listing)
+    run::run(sheet::first_edition(), sheet, horizon, listing)
 }

@@ -28,8 +28,8 @@ returns c =
     let ran = c .before .before .before .before .before .before .before in
     let sheet = ran .before .before .before .sheet-in .ensures in
     let horizon = ran .before .before .horizon-in .ensures in
-    let answer = rw (sheet, horizon) at (ran .run .ensures .0) in
-    let listing = rw (sheet, horizon) at (ran .run .ensures .1) in
+    let answer = rw (sheet, horizon) at (ran .run .ensures .answered) in
+    let listing = rw (sheet, horizon) at (ran .run .ensures .left) in
     (listing, rw (answer, listing) at (c .before .before .print .ensures))
 
 pub simulate-spec : {M : Type 1} → statement M

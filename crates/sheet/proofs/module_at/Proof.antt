@@ -4,6 +4,9 @@ use borrow.Author.Needs.{needs}
 use Rattle.sheet.proofs.module_at.Statement.{statement}
 use Rattle.sheet.proofs.module_at.Tie as tie
 
+cast-if1 : tie.Need-cast-if1
+cast-if1 c = search needs
+
 add-if1 : tie.Need-add-if1
 add-if1 c = search needs
 
@@ -17,4 +20,4 @@ returns-2 : tie.Need-returns-2
 returns-2 c = simp (le-ltb _ _ (c .before .if1 .left), c .module-record .ensures)
 
 pub module-at-spec : {M : Type 1} → statement M
-module-at-spec = tie.close (tie.spec add-if1 module-record-requires returns returns-2)
+module-at-spec = tie.close (tie.spec cast-if1 add-if1 module-record-requires returns returns-2)

@@ -1,49 +1,57 @@
--- `level::Level::gate` meets its contract: one test holds the tables to the kinds' rules, at every kind and every two values. `rw` finds the tables in the goal.
+-- `level::Level::gate` meets its contract: a gate's entry is what its rule comes to, a constant of parameter 0 and a memory of no values come to 0, a further kind to X.
 -- Assumes nothing.
-use mathlib.Core.Bool.{Bool}
-use mathlib.Core.List.{List}
-use mathlib.Core.Path.{_≡_}
-use Prim.Native.Nat.{ℕ, zero, suc, _<_, _≤_}
-use native.Mathlib.Nat.{not-suc-le-zero}
-use lib.Dec.{T, eqb, eqb→eq}
-use lib.ListN.{getD}
+use mathlib.Core.Path.{sym}
+use Prim.Native.Nat.{_%_, _<_}
+use native.Mathlib.Nat.{mod-lt, zero-div}
+use native.Mathlib.Omega.{arith}
 use borrow.Author.Needs.{needs}
-use Rattle.level.specs.Rule.{comesTo}
-use Rattle.level.specs.Kind.{ruleOf}
-use Rattle.level.specs.Table.{entryOf}
-use Rattle.level.proofs.Computed.{allBelow, below}
+use lib.Dec.{lit<}
+use lib.ListN.{List·getD-eq-default}
+use Rattle.level.specs.Level.{unknown}
+use Rattle.level.specs.Rule.{gate}
+use Rattle.level.specs.Kind.{rules}
+use Rattle.level.specs.Table.{tables}
+use Rattle.level.proofs.Gates.{gate-entry, inputs-one, inputs-two}
 use Rattle.level.proofs.Level.gate.Statement.{statement}
 use Rattle.level.proofs.Level.gate.Tie as tie
 
--- a gate's entry is what its kind's rule comes to
-abbrev right : List ℕ → ℕ → ℕ → ℕ → Bool
-right tables kind first second =
-    eqb (getD tables (entryOf kind first second) 0) (comesTo (ruleOf kind 0) first second 0)
-
--- at kinds 1 to 8 and all values
-abbrev allRight : List ℕ → Bool
-allRight tables = allBelow 8 (λ k. allBelow 4 (λ a. allBelow 4 (right tables (suc k) a)))
-
--- the test at one kind and two values; `place` is where the code looks
-gates : (tables : List ℕ) {kind first second place : ℕ} → 1 ≤ kind → kind ≤ 8 → first < 4 → second < 4 → place ≡ entryOf kind first second → T (allRight tables) → getD tables place 0 ≡ comesTo (ruleOf kind 0) first second 0
-gates tables {kind = zero} one eight f s e t = absurd (not-suc-le-zero one)
-gates tables {kind = suc k} {first = a} {second = b} one eight f s e t =
-    rw e
-    (eqb→eq _ _
-    (below 4 (right tables (suc k) a)
-    (below 4 (λ a. allBelow 4 (right tables (suc k) a))
-    (below 8 (λ k. allBelow 4 (λ a. allBelow 4 (right tables (suc k) a))) t k eight)
-    a f)
-    b s))
-
-entry-requires : tie.Need-entry-requires
-entry-requires c κs = search needs
+place-of-one-requires : tie.Need-place-of-one-requires
+place-of-one-requires c κs = (omega arith, omega arith, mod-lt _ (lit< tt))
 
 array-read-result : tie.Need-array-read-result
 array-read-result c = search needs
 
+place-of-two-requires : tie.Need-place-of-two-requires
+place-of-two-requires c κs = (omega arith, omega arith, mod-lt _ (lit< tt), mod-lt _ (lit< tt))
+
+array-read-result-2 : tie.Need-array-read-result-2
+array-read-result-2 c = search needs
+
 returns : tie.Need-returns
-returns c one eight f s = rw (gates _ one eight f s (c .entry .ensures .1 one eight f s))
+returns c = search needs
+
+returns-2 : tie.Need-returns-2
+unfolding tables
+returns-2 c =
+    let k = c .before .before .before .args .kind in
+    let f : c .before .before .before .args .first % 4 < 4 = mod-lt _ (lit< tt) in
+    let n = inputs-one k (omega arith) (omega arith) in
+    rw (c .place-of-one .ensures .1, n) (gate-entry k _ (omega arith) (omega arith) (sym n) (f, tt))
+
+returns-3 : tie.Need-returns-3
+unfolding tables
+returns-3 c =
+    let k = c .before .before .before .before .args .kind in
+    let f : c .before .before .before .before .args .first % 4 < 4 = mod-lt _ (lit< tt) in
+    let s : c .before .before .before .before .args .second % 4 < 4 = mod-lt _ (lit< tt) in
+    let n = inputs-two k (omega arith) (omega arith) in
+    rw (c .place-of-two .ensures .1, n) (gate-entry k _ (omega arith) (omega arith) (sym n) (f, (s, tt)))
+
+returns-4 : tie.Need-returns-4
+returns-4 c = rw (c .if4 .taken, zero-div)
+
+returns-5 : tie.Need-returns-5
+returns-5 c = rw (List·getD-eq-default (rules 0) (gate 0 (λ inputs. unknown)) {n = c .before .before .before .before .args .kind} (omega arith))
 
 pub gate-spec : {M : Type 1} → statement M
-gate-spec = tie.close (tie.spec entry-requires array-read-result returns)
+gate-spec = tie.close (tie.spec place-of-one-requires array-read-result place-of-two-requires array-read-result-2 returns returns-2 returns-3 returns-4 returns-5)

@@ -1,87 +1,97 @@
 -- The arrays are filled, and then the ticks begin. Assumes nothing.
 use borrow.Author.Needs.{needs}
-use mathlib.Core.List.{[]}
-use mathlib.Core.Path.{refl, ap, _∙_}
 use native.Mathlib.Omega.{arith}
-use lib.ListN.{replicate}
-use Rattle.sheet.specs.Layout.{watchedNode}
-use Rattle.format.specs.Sheet.{listed}
-use Rattle.model.specs.Fresh.{notShown}
-use Rattle.run.proofs.Loaded.{zero-levels, zero-room}
+use Rattle.sheet.specs.Contents.{heldSheet}
+use Rattle.load.proofs.Begun.{zero-levels}
+use Rattle.run.proofs.Held.{byte-in-range, modules-there, ready}
 use Rattle.run.proofs.accepted.run_accepted.Statement.{statement}
 use Rattle.run.proofs.accepted.run_accepted.Tie as tie
 
-shape-of-requires : tie.Need-shape-of-requires
-shape-of-requires c κs =
-    let p = c .before .before .pre in
-    (p .0, p .1)
+cast-modules : tie.Need-cast-modules
+cast-modules c = search needs
 
-lay-out-requires : tie.Need-lay-out-requires
-lay-out-requires c κs = search needs
+load-modules-requires : tie.Need-load-modules-requires
+load-modules-requires c κs = search needs
 
-load-all-requires : tie.Need-load-all-requires
-load-all-requires c κs =
-    let p = c .before .before .before .before .before .before .before .before .pre in
-    (p .0, p .1 .nodes (omega arith) .0, p .1 .modules (omega arith) .0, p .4, zero-room, zero-levels, zero-levels)
+cast-load-drive : tie.Need-cast-load-drive
+cast-load-drive c = search needs
 
-cast-watch : tie.Need-cast-watch
-cast-watch c = search needs
+load-drive-requires : tie.Need-load-drive-requires
+load-drive-requires c κs = search needs
 
-cast-watch-2 : tie.Need-cast-watch-2
-cast-watch-2 c = search needs
+cast-load-values : tie.Need-cast-load-values
+cast-load-values c = search needs
 
-mul-watch : tie.Need-mul-watch
-mul-watch c = search needs
+load-values-requires : tie.Need-load-values-requires
+load-values-requires c κs =
+    let start = c .before .before .before .before .before .before .before .before .before .before .before .before .before .before .before in
+    let p = start .pre in
+    let contents = start .args .contents in
+    (omega (arith, p .1 .node-count, p .0 .nodes), byte-in-range contents (p .0) (p .1), zero-levels)
 
-add-watch : tie.Need-add-watch
-add-watch c = search needs
+load-last-requires : tie.Need-load-last-requires
+load-last-requires c κs =
+    let p = c .before .before .before .before .before .before .before .before .before .before .before .before .before .before .before .before .before .before .pre in
+    (omega (arith, p .1 .module-count, p .0 .modules), c .before .before .load-values .ensures .1, zero-levels)
 
-add-watch-2 : tie.Need-add-watch-2
-add-watch-2 c = search needs
+count-delayed-requires : tie.Need-count-delayed-requires
+count-delayed-requires c κs = search needs
 
-load-watched-requires : tie.Need-load-watched-requires
-load-watched-requires c κs = search needs
+empty-requires : tie.Need-empty-requires
+empty-requires c κs = search needs
 
+tables-requires : tie.Need-tables-requires
+tables-requires c κs = search needs
+
+cast-ticks : tie.Need-cast-ticks
+cast-ticks c = search needs
+
+-- the arrays as they stand when the ticks begin
 ticks-requires : tie.Need-ticks-requires
 ticks-requires c κs =
-    let start = c .before .before .before .before .before .before .before .before .before .before .before .before .before .before .before .before .before .before .before .before .before .before in
+    let start = c .before .before .before .before .before .before .before .before .before .before .before .before .before .before .before .before .before .before .before .before .before .before .before .before .before .before .before .before .before .before .before .before .before .before .before .before .before in
     let p = start .pre in
-    let shape = c .before .before .before .before .before .before .before .before .before .before .before .before .before .before .before .before .before .before .before .shape-of .ensures in
-    let load = c .before .before .before .before .before .before .before .before .before .before .before .before .before .load-all .ensures in
-    let w = c .before .before .before .before .before .before .before .before .before .load-watched .ensures in (
-      record {
-        accepted = p .0;
-        some-tick = p .2;
-        few-ticks = p .3;
-        counts = shape;
-        loaded = load .loaded (replicate 256 notShown) [] refl;
-        known = load .known;
-        watched-size = w .1;
-        watched-there = w .0 ∙ ap (λ n. listed n (watchedNode (start .args .s .now))) (shape .watched-counted);
-      },
-      c .before .before .before .before .before .before .before .before .before .before .before .before .before .before .before .before .before .before .lay-out .ensures,
-      refl {a = 4352},
+    let contents = start .args .contents in (
+      (
+        _,
+        ready contents (p .0) (p .1) (p .2) (p .3) (start .args .records) (p .4)
+            (c .before .before .before .before .before .before .before .before .before .before .before .before .before .before .before .before .before .before .before .before .before .before .before .before .before .before .before .before .before .before .before .load-modules .ensures .0)
+            (c .before .before .before .before .before .before .before .before .before .before .before .before .before .before .before .before .before .before .before .before .before .before .before .before .before .load-drive .ensures .0)
+            (c .before .before .before .before .before .before .before .before .before .before .before .before .before .before .before .before .count-delayed .ensures .0 _ (modules-there contents (p .0) (p .1)))
+            (c .before .before .before .before .before .before .before .before .before .before .before .before .before .before .before .before .before .before .before .before .before .load-values .ensures .0)
+            (c .before .before .before .before .before .before .before .before .before .before .before .before .before .before .before .before .before .before .before .before .before .load-values .ensures .1)
+            (c .before .before .before .before .before .before .before .before .before .before .before .before .before .before .before .before .before .before .load-last .ensures .0)
+            (c .before .before .before .before .before .before .before .before .before .before .before .before .before .before .before .before .before .before .load-last .ensures .1),
+      ),
+      c .before .before .before .before .before .before .before .before .before .before .before .before .before .tables .ensures,
+      c .before .before .before .before .before .before .before .before .before .before .before .before .before .before .empty .ensures,
     )
 
 same-length : tie.Need-same-length
 same-length c = search needs
 
 returns : tie.Need-returns
-returns c = search needs
+unfolding heldSheet ticks-requires
+returns c =
+    let κ = c .before .before .before .before .before .before .before .before .before .before .before .before .before .before .before .before .before .before .before .before .before .before .before .before .before .before .before .before .before .before .before .before .before .before .before .before .before .before .before .before .κs .0 in
+    let asked = ticks-requires (c .before .before .before) (κ, (κ, (κ, (κ, (κ, (κ, (κ, (κ, (κ, (κ, (κ, (κ, tt)))))))))))) in
+    c .before .before .ticks .ensures (asked .0 .0) (asked .0 .1)
 
 pub run-accepted-spec : {M : Type 1} → statement M
 run-accepted-spec =
     tie.close
     (tie.spec
-    shape-of-requires
-    lay-out-requires
-    load-all-requires
-    cast-watch
-    cast-watch-2
-    mul-watch
-    add-watch
-    add-watch-2
-    load-watched-requires
+    cast-modules
+    load-modules-requires
+    cast-load-drive
+    load-drive-requires
+    cast-load-values
+    load-values-requires
+    load-last-requires
+    count-delayed-requires
+    empty-requires
+    tables-requires
+    cast-ticks
     ticks-requires
     same-length
     returns)

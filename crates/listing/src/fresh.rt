@@ -1,0 +1,77 @@
+// The records of a tick: counted first, and then written.
+use crate::record::write_record;
+ghost use mathlib.Core.Path.{_≡_};
+ghost use Prim.Native.Nat.{ℕ, _+_, _*_, _<_, _≤_};
+ghost use lib.ListN.{length, take};
+ghost use Rattle.network.specs.Buffer.{recordSize};
+ghost use Rattle.model.specs.Fresh.{fresh, showAll};
+ghost use Rattle.listing.specs.Record.{written};
+
+// A byte as an index: below 256 without more ado.
+fn wide(x: u8) -> usize
+    ensures { λ r. ⌜ (r ≡ x) × (r < 256) ⌝ }
+{
+    x as usize
+}
+
+// How many of the first n watched nodes have a value that is not the one shown last.
+pub(crate) fn count_fresh(
+    watched: &[u8; 256],
+    n: usize,
+    values: &[u8; 256],
+    shown: &[u8; 256],
+) -> usize
+    requires { ⌜ (n ≤ 256) × (length (now watched) ≡ 256) ⌝ }
+    ensures { λ r. ⌜ ((t : ℕ) → r ≡ length (fresh t (now (values .entry)) (now (shown .entry)) (take n (now (watched .entry))))) ⌝ }
+{
+    let mut c: usize = 0;
+    let mut k: usize = 0;
+    while k < n {
+        let v = wide(watched[k]);
+        if values[v] != shown[v] {
+            c += 1;
+        }
+        k += 1;
+    }
+    c
+}
+
+// Writes the records of tick t from record number at on. Answers the number after the last.
+pub(crate) fn write_fresh(
+    listing: &mut [u8],
+    at: usize,
+    t: u32,
+    watched: &[u8; 256],
+    n: usize,
+    values: &[u8; 256],
+    shown: &[u8; 256],
+) -> usize
+    requires { ⌜ (n ≤ 256) × (length (now watched) ≡ 256) × (recordSize * (at + length (fresh t (now values) (now shown) (take n (now watched)))) ≤ length (now listing)) ⌝ }
+    ensures { λ r. ⌜ (r ≡ at + length (fresh t (now (values .entry)) (now (shown .entry)) (take n (now (watched .entry))))) × (now (listing .exit) ≡ written at (fresh t (now (values .entry)) (now (shown .entry)) (take n (now (watched .entry)))) (now (listing .entry))) ⌝ }
+{
+    let mut c = at;
+    let mut k: usize = 0;
+    while k < n {
+        let node = watched[k];
+        let v = wide(node);
+        if values[v] != shown[v] {
+            write_record(listing, c, t, node, values[v]);
+            c += 1;
+        }
+        k += 1;
+    }
+    c
+}
+
+// The values of the first n watched nodes are now shown.
+pub(crate) fn show_all(watched: &[u8; 256], n: usize, values: &[u8; 256], shown: &mut [u8; 256])
+    requires { ⌜ (n ≤ 256) × (length (now watched) ≡ 256) × (length (now shown) ≡ 256) ⌝ }
+    ensures { λ _. ⌜ (now (shown .exit) ≡ showAll (now (values .entry)) (now (shown .entry)) (take n (now (watched .entry)))) × (length (now (shown .exit)) ≡ 256) ⌝ }
+{
+    let mut k: usize = 0;
+    while k < n {
+        let v = wide(watched[k]);
+        shown[v] = values[v];
+        k += 1;
+    }
+}

@@ -1,0 +1,76 @@
+// The listing's part of a tick: 19 before any record is written, 20 after they are.
+mod fresh;
+mod record;
+
+use fresh::count_fresh;
+use fresh::show_all;
+use fresh::write_fresh;
+pub use record::Listed;
+use record::RECORD_SIZE;
+pub use record::record_at;
+use sheet::PENDING_LIMIT;
+ghost use mathlib.Core.Path.{_≡_};
+ghost use Prim.Native.Nat.{_+_, _*_, _≤_};
+ghost use lib.ListN.{length, take};
+ghost use Rattle.network.specs.Buffer.{recordSize};
+ghost use Rattle.model.specs.Fresh.{fresh};
+ghost use Rattle.listing.specs.Step.{StepOf, RecordsWritten};
+
+// No value is shown before the first tick; this is none.
+pub const NOT_SHOWN: u8 = 255;
+
+// After a tick's listing: no room for its records; written, with the count, but too many changes pending; or written.
+pub enum Step {
+    Full,
+    Crowded(usize),
+    Next(usize),
+}
+
+// Writes the records of tick t, so many of them, after the n written before, and shows the values.
+// A tick without records leaves all as it is.
+fn write(
+    listing: &mut [u8],
+    n: usize,
+    t: u32,
+    watched: &[u8; 256],
+    count: usize,
+    values: &[u8; 256],
+    shown: &mut [u8; 256],
+    records: usize,
+) -> usize
+    requires { ⌜ (count ≤ 256) × (length (now watched) ≡ 256) × (length (now shown) ≡ 256) × (records ≡ length (fresh t (now values) (now shown) (take count (now watched)))) × (recordSize * (n + records) ≤ length (now listing)) ⌝ }
+    ensures { λ r. ⌜ RecordsWritten (now (listing .entry)) n t (take count (now (watched .entry))) (now (values .entry)) (now (shown .entry)) r (now (listing .exit)) (now (shown .exit)) ⌝ }
+{
+    if records == 0 {
+        return n;
+    }
+    let written = write_fresh(listing, n, t, watched, count, values, &*shown);
+    show_all(watched, count, values, shown);
+    written
+}
+
+// Lists tick t after the n records written before. So many nodes are watched, and so many changes are pending after the tick.
+pub fn list(
+    listing: &mut [u8],
+    n: usize,
+    t: u32,
+    watched: &[u8; 256],
+    count: usize,
+    values: &[u8; 256],
+    shown: &mut [u8; 256],
+    pending: usize,
+) -> Step
+    requires { ⌜ (count ≤ 256) × (length (now watched) ≡ 256) × (length (now shown) ≡ 256) ⌝ }
+    ensures { λ r. ⌜ StepOf (now (listing .entry)) n t (take count (now (watched .entry))) (now (values .entry)) (now (shown .entry)) pending r (now (listing .exit)) (now (shown .exit)) ⌝ }
+{
+    let records = count_fresh(watched, count, values, &*shown);
+    let room = listing.len() / RECORD_SIZE;
+    if room < n || room - n < records {
+        return Step::Full;
+    }
+    let written = write(listing, n, t, watched, count, values, shown, records);
+    if PENDING_LIMIT < pending {
+        return Step::Crowded(written);
+    }
+    Step::Next(written)
+}

@@ -1,0 +1,54 @@
+// A record's bytes: tick (4 bytes), node, value. Nothing else knows them.
+ghost use mathlib.Core.List.{[], _∷_};
+ghost use mathlib.Core.Path.{_≡_};
+ghost use Prim.Native.Nat.{_+_, _*_, _^_, _<_, _≤_};
+ghost use lib.ListN.{length};
+ghost use Rattle.sheet.specs.Bytes.{longAt};
+ghost use Rattle.network.specs.Buffer.{recordSize, recordIn};
+ghost use Rattle.listing.specs.Record.{recordOf, written};
+
+pub(crate) const RECORD_SIZE: usize = 6;
+
+// A record of the listing.
+pub struct Listed {
+    pub tick: u32,
+    pub node: u8,
+    pub value: u8,
+}
+
+// Writes record number n of the listing.
+pub(crate) fn write_record(listing: &mut [u8], n: usize, t: u32, node: u8, value: u8)
+    requires { ⌜ recordSize * (n + 1) ≤ length (now listing) ⌝ }
+    ensures { λ _. ⌜ now (listing .exit) ≡ written n (record { tick = t; node = node; value = value } ∷ []) (now (listing .entry)) ⌝ }
+{
+    let at = RECORD_SIZE * n;
+    listing[at] = (t % 256) as u8;
+    listing[at + 1] = (t / 256 % 256) as u8;
+    listing[at + 2] = (t / 65536 % 256) as u8;
+    listing[at + 3] = (t / 16777216 % 256) as u8;
+    listing[at + 4] = node;
+    listing[at + 5] = value;
+}
+
+// The number of four bytes at a place of a record, whose number has 32 bits.
+fn long(s: &[u8], p: usize) -> u32
+    requires { ⌜ p < recordSize * 2 ^ 32 ⌝ }
+    ensures { λ r. ⌜ r ≡ longAt (now (s .entry)) p ⌝ }
+{
+    (sheet::byte(s, p) as u32)
+        + 256 * (sheet::byte(s, p + 1) as u32)
+        + 65536 * (sheet::byte(s, p + 2) as u32)
+        + 16777216 * (sheet::byte(s, p + 3) as u32)
+}
+
+// Record number i of the listing, and zeros past its end.
+pub fn record_at(listing: &[u8], i: u32) -> Listed
+    ensures { λ r. ⌜ recordOf r ≡ recordIn (now (listing .entry)) (recordSize * i) ⌝ }
+{
+    let at = RECORD_SIZE * (i as usize);
+    Listed {
+        tick: long(listing, at),
+        node: sheet::byte(listing, at + 4),
+        value: sheet::byte(listing, at + 5),
+    }
+}

@@ -1,0 +1,2 @@
+-- What loading leaves.
+pub mod First

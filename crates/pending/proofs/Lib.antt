@@ -1,0 +1,2 @@
+-- Laws of the pass over the pending changes.
+pub mod Taking

@@ -1,0 +1,108 @@
+-- The pass over the pending changes, one after the other: those due are taken, and the others move down. Assumes nothing.
+use mathlib.Core.Bool.{Bool, true, false}
+use mathlib.Core.List.{List, [], _∷_, _++_, append-nil}
+use mathlib.Core.Path.{_≡_, refl, sym, _∙_}
+use Prim.Native.Nat.{ℕ, _+_, _<_, _≤_}
+use native.Mathlib.Numerals.{add-one}
+use native.Mathlib.Omega.{arith}
+use borrow.Author.Tests.{eq-eqb, ne-eqb}
+use lib.Dec.{eqb}
+use lib.ListN.{length, getD, set, take, drop, length-set}
+use lib.Seq.{take-suc, drop-cons, take-suc-set, take-set-lt, drop-set-lt, take-all, length-take-le, getD-take}
+use Rattle.level.specs.Choice.{if_then_else_}
+use Rattle.model.specs.Change.{Change}
+use Rattle.pending.specs.declared.Scan.{Scan}
+use Rattle.pending.specs.Flat.{places, Packable, unpacked, flatDue, flatRest}
+use Rattle.pending.specs.FlatLaws.{flat}
+use Rattle.pending.specs.Taking.{Within, Taking, OneTaken, AllTaken}
+
+abbrev scanned : ℕ → ℕ → Scan
+scanned kept at = record { kept = kept; at = at }
+
+-- so many numbers of a store are so many changes
+pub counts-first : (store : List ℕ) (count : ℕ) → count ≤ length store → flat .count (take count store) ≡ count
+counts-first store count h = length-take-le count store h
+
+-- before the first change
+pub at-start : (t : ℕ) (store : List ℕ) (count : ℕ) → length store ≡ places → count ≤ places → Taking (take count store) t [] store count (scanned 0 0)
+unfolding flatDue flatRest
+at-start t store count e h =
+    record {
+      within = record { kept = omega arith; at = omega arith; room = h; size = e };
+      counted = counts-first store count (omega arith);
+      takes = refl;
+      stay = refl;
+      ahead = refl;
+    }
+
+if-append : {A : Type 0} (b : Bool) (x y z : List A) → (if b then x ++ z else y ++ z) ≡ (if b then x else y) ++ z
+if-append true x y z = refl
+if-append false x y z = refl
+
+-- one number more, at the end
+module _ (t p : ℕ) where
+  due-more : (k : List ℕ) → flatDue (k ++ p ∷ []) t ≡ flatDue k t ++ (if eqb (unpacked p .due) t then unpacked p ∷ [] else [])
+  unfolding flatDue
+  due-more [] = refl
+  due-more (q ∷ k) = rw (due-more k) (if-append (eqb (unpacked q .due) t) (unpacked q ∷ flatDue k t) (flatDue k t) _)
+
+  rest-more : (k : List ℕ) → flatRest (k ++ p ∷ []) t ≡ flatRest k t ++ (if eqb (unpacked p .due) t then [] else p ∷ [])
+  unfolding flatRest
+  rest-more [] = refl
+  rest-more (q ∷ k) = rw (rest-more k) (if-append (eqb (unpacked q .due) t) (flatRest k t) (q ∷ flatRest k t) _)
+
+cons-head : {x y : ℕ} {k l : List ℕ} → x ∷ k ≡ y ∷ l → x ≡ y
+cons-head e = cc
+
+cons-tail : {x y : ℕ} {k l : List ℕ} → x ∷ k ≡ y ∷ l → k ≡ l
+cons-tail e = cc
+
+module _ {start : List ℕ} {t : ℕ} {taken : List Change} {store : List ℕ} {count kept at : ℕ} (w : Taking start t taken store count (scanned kept at)) where
+  module _ (h : at < count) where
+    abbrev here : ℕ
+    here = getD store at 0
+
+    -- the number at `at` stands where it stood, and so do those behind it
+    ahead : here ∷ drop (at + 1) (take count store) ≡ getD start at 0 ∷ drop (at + 1) start
+    ahead =
+        rw (← getD-take count store at 0 h, add-one)
+        (sym (drop-cons (take count store) at 0 (rw (counts-first store count (omega arith)) h)) ∙ (w .ahead ∙ drop-cons start at 0 (omega arith)))
+
+    one-more : take (at + 1) start ≡ take at start ++ here ∷ []
+    one-more = rw (add-one, cons-head ahead) (take-suc start at 0 (omega arith))
+
+    pub due-passed : (from : Scan) → from .at ≤ at → unpacked here .due ≡ t
+        → OneTaken start t taken store count from (record { due = t; position = unpacked here .position; value = unpacked here .value }) (scanned kept (at + 1))
+    due-passed from b e =
+        record {
+          packable = record { position = omega arith; value = omega arith };
+          onward = omega arith;
+          taking =
+              record {
+                within = record { kept = omega arith; at = omega arith; room = w .within .room; size = w .within .size };
+                counted = w .counted;
+                takes = rw (one-more, due-more, eq-eqb (unpacked here .due) t e, e, ← w .takes);
+                stay = rw (one-more, rest-more, eq-eqb (unpacked here .due) t e) (w .stay ∙ sym (append-nil _));
+                ahead = cons-tail ahead;
+              };
+        }
+
+    pub kept-passed : (unpacked here .due ≡ t → ⊥) → Taking start t taken (set store kept here) count (scanned (kept + 1) (at + 1))
+    kept-passed e =
+        record {
+          within = record { kept = omega arith; at = omega arith; room = w .within .room; size = length-set store kept here ∙ w .within .size };
+          counted = w .counted;
+          takes = rw (one-more, due-more, ne-eqb (unpacked here .due) t e) (w .takes ∙ sym (append-nil _));
+          stay = rw (one-more, rest-more, ne-eqb (unpacked here .due) t e, add-one, ← w .stay) (take-suc-set store kept here (omega arith));
+          ahead = rw (take-set-lt count store kept here (omega arith), drop-set-lt (at + 1) (take count store) kept here (omega arith)) (cons-tail ahead);
+        }
+
+  pub all-passed : count ≤ at → AllTaken start t taken store count kept
+  all-passed h =
+      let e : take at start ≡ start = take-all at start (omega arith) in
+      record {
+        takes = rw e at (w .takes);
+        stay = rw e at (w .stay);
+        fewer = omega arith;
+        size = w .within .size;
+      }

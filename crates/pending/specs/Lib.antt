@@ -1,0 +1,4 @@
+-- How the pending changes are kept, and what taking those due comes to.
+pub mod Flat
+pub mod FlatLaws
+pub mod Taking

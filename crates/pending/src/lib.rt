@@ -1,0 +1,67 @@
+// The pending changes: how they are laid out is known in this crate alone.
+use sheet::MOST_MODULES;
+use sheet::PENDING_LIMIT;
+ghost use mathlib.Core.List.{List};
+ghost use mathlib.Core.Path.{_≡_};
+ghost use Prim.Native.Nat.{ℕ, _+_, _<_, _^_};
+ghost use lib.ListN.{length, take};
+ghost use Rattle.model.specs.Change.{Change};
+ghost use Rattle.pending.specs.Flat.{places};
+ghost use Rattle.pending.specs.FlatLaws.{flat};
+ghost use Rattle.pending.specs.Taking.{Within, Taking, TakenOn};
+
+// As many as may be pending after a tick, and one more of each module.
+const PLACES: usize = PENDING_LIMIT + (MOST_MODULES as usize);
+
+pub type Store = [u32; PLACES];
+
+// How far the changes are passed at a tick: `kept` of the first `at` stay, and stand first.
+pub struct Scan {
+    pub kept: usize,
+    pub at: usize,
+}
+
+// What is met next: the position and value of a change that is due, and where to go on; or none, and how many stay.
+pub enum Due {
+    Change(usize, u8, Scan),
+    Done(usize),
+}
+
+// Room for the pending changes, none of them put yet.
+pub fn empty() -> Store
+    ensures { λ r. ⌜ length r ≡ places ⌝ }
+{
+    [0; PLACES]
+}
+
+// Puts a change behind the `count` that are pending. Answers how many are pending then.
+pub fn put(store: &mut Store, count: usize, due: u32, position: usize, value: u8) -> usize
+    requires { ⌜ (count < places) × (due < 2 ^ 22) × (position < 256) × (value < 4) × (length (now store) ≡ places) ⌝ }
+    ensures { λ r. ⌜
+        (take r (now (store .exit)) ≡ flat .put (take count (now (store .entry))) (record { due = due; position = position; value = value }))
+        × (r ≡ count + 1) × (length (now (store .exit)) ≡ places) ⌝ }
+{
+    store[count] = due * 1024 + (position as u32) * 4 + (value as u32);
+    count + 1
+}
+
+// Goes on from `scan` over the `count` pending changes to the next one that is due at tick t.
+// Those passed on the way move down to the others that stay.
+pub fn next_due(store: &mut Store, scan: Scan, count: usize, t: u32) -> Due
+    requires { ⌜ Within (now store) count scan ⌝ }
+    ensures { λ r. ⌜ ((start : List ℕ) (taken : List Change)
+        → Taking start t taken (now (store .entry)) count scan → TakenOn start t taken (now (store .exit)) count scan r) ⌝ }
+{
+    let mut kept = scan.kept;
+    let mut at = scan.at;
+    while at < count {
+        let p = store[at];
+        at += 1;
+        if p / 1024 == t {
+            return Due::Change((p / 4 % 256) as usize, (p % 4) as u8, Scan { kept, at });
+        }
+        store[kept] = p;
+        kept += 1;
+    }
+    Due::Done(kept)
+}

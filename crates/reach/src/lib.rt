@@ -1,0 +1,149 @@
+// Zero-delay links between nodes, which node leads to which over them, and the least node on a zero-delay loop.
+ghost use mathlib.Core.Bool.{false, _&&_};
+ghost use mathlib.Core.Path.{_≡_};
+ghost use Prim.Native.Nat.{ℕ, _<_, _≤_, min};
+ghost use lib.Dec.{eqb};
+ghost use lib.ListN.{length, getD};
+ghost use Rattle.sheet.specs.Enumerate.{each};
+ghost use Rattle.sheet.specs.Sheet.{Sheet, nodeCount};
+ghost use Rattle.sheet.specs.Outcome.{outcomeOf};
+ghost use Rattle.sheet.specs.Loop.{leads, leadsOver};
+ghost use Rattle.sheet.specs.Refusal.{loopRows, first};
+ghost use Rattle.reach.specs.Links.{links, linksBelow, entry, Holds, Adds, diagonalRows, Network};
+use sheet::Answer;
+use sheet::Module;
+
+// A count of nodes or of modules, cut to the greatest one.
+pub fn cut(count: u16) -> u16
+    ensures { λ r. ⌜ r ≡ min count 256 ⌝ }
+{
+    if 256 < count { 256 } else { count }
+}
+
+// The first node leads to the second, if the test says so.
+fn mark(reach: &mut [bool; 65536], u: u8, v: u8, test: bool)
+    requires { ⌜ length (now reach) ≡ 65536 ⌝ }
+    ensures { λ _. ⌜ Adds (now (reach .entry)) (λ a b. test && (eqb a u && eqb b v)) (now (reach .exit)) ⌝ }
+{
+    let at = 256 * (u as usize) + (v as usize);
+    reach[at] = reach[at] | test;
+}
+
+// The links of one module.
+fn mark_module(reach: &mut [bool; 65536], m: Module)
+    requires { ⌜ length (now reach) ≡ 65536 ⌝ }
+    ensures { λ _. ⌜ Adds (now (reach .entry)) (links m) (now (reach .exit)) ⌝ }
+{
+    let used = level::inputs(m.kind);
+    let at_once = m.delay == 0;
+    mark(reach, m.first, m.output, at_once & (0 < used));
+    mark(reach, m.second, m.output, at_once & (1 < used));
+}
+
+// The links of the first n modules.
+fn mark_modules(reach: &mut [bool; 65536], modules: [Module; 256], n: usize)
+    requires { ⌜ (length (now reach) ≡ 65536) × (n ≤ 256) ⌝ }
+    ensures { λ _. ⌜ Adds (now (reach .entry)) (linksBelow modules n) (now (reach .exit)) ⌝ }
+{
+    let mut m: usize = 0;
+    while m < n {
+        mark_module(reach, modules[m]);
+        m += 1;
+    }
+}
+
+// Where node k leads.
+fn row_of(reach: &[bool; 65536], k: usize) -> [bool; 256]
+    requires { ⌜ k < 256 ⌝ }
+    ensures { λ r. ⌜ ((v : ℕ) → v < 256 → getD r v false ≡ entry (now (reach .entry)) k v) ⌝ }
+{
+    let from = 256 * k;
+    let mut row = [false; 256];
+    let mut v: usize = 0;
+    while v < 256 {
+        row[v] = reach[from + v];
+        v += 1;
+    }
+    row
+}
+
+// Node u leads where the row says.
+fn join_row(reach: &mut [bool; 65536], row: &[bool; 256], u: usize)
+    requires { ⌜ (length (now reach) ≡ 65536) × (u < 256) ⌝ }
+    ensures { λ _. ⌜ Adds (now (reach .entry)) (λ a v. eqb a u && getD (now (row .entry)) v false) (now (reach .exit)) ⌝ }
+{
+    let to = 256 * u;
+    let mut v: usize = 0;
+    while v < 256 {
+        reach[to + v] = reach[to + v] | row[v];
+        v += 1;
+    }
+}
+
+// If node u leads to node k, it leads where the row says.
+fn join_over(reach: &mut [bool; 65536], row: &[bool; 256], u: usize, k: usize)
+    requires { ⌜ (length (now reach) ≡ 65536) × (u < 256) × (k < 256) ⌝ }
+    ensures { λ _. ⌜ Adds (now (reach .entry)) (λ a v. eqb a u && (entry (now (reach .entry)) a k && getD (now (row .entry)) v false)) (now (reach .exit)) ⌝ }
+{
+    if reach[256 * u + k] {
+        join_row(reach, row, u);
+    }
+}
+
+// Every node that leads to node k leads where that leads.
+fn close_over(reach: &mut [bool; 65536], k: usize)
+    requires { ⌜ (length (now reach) ≡ 65536) × (k < 256) ⌝ }
+    ensures { λ _. ⌜ Adds (now (reach .entry)) (λ a v. entry (now (reach .entry)) a k && entry (now (reach .entry)) k v) (now (reach .exit)) ⌝ }
+{
+    let row = row_of(reach, k);
+    let mut u: usize = 0;
+    while u < 256 {
+        join_over(reach, &row, u, k);
+        u += 1;
+    }
+}
+
+// Which node leads to which over nodes below n, from which is linked to which.
+fn close(reach: &mut [bool; 65536], n: usize)
+    requires { ⌜ (length (now reach) ≡ 65536) × (n ≤ 256) ⌝ }
+    ensures { λ _. ⌜ ((S : Sheet) → Holds (now (reach .entry)) (leads S) → Holds (now (reach .exit)) (leadsOver S n)) ⌝ }
+{
+    let mut k: usize = 0;
+    while k < n {
+        close_over(reach, k);
+        k += 1;
+    }
+}
+
+// Which node leads to which over modules of delay 0. A row and a column stand there for every byte, whether a node or not.
+pub fn closure(reach: &mut [bool; 65536], modules: [Module; 256], n: u16, nodes: u16)
+    ensures { λ _. ⌜ ((S : Sheet) → Network modules n nodes S → Holds (now (reach .exit)) (leadsOver S (nodeCount S))) ⌝ }
+{
+    *reach = [false; 65536];
+    mark_modules(reach, modules, cut(n) as usize);
+    close(reach, cut(nodes) as usize);
+}
+
+// The least node that leads to itself.
+pub fn least(reach: &[bool; 65536], nodes: u16) -> Answer
+    ensures { λ r. ⌜ outcomeOf r ≡ first (each (min nodes 256) (diagonalRows (entry (now (reach .entry))))) ⌝ }
+{
+    let n = cut(nodes) as usize;
+    let mut v: usize = 0;
+    while v < n {
+        if reach[256 * v + v] {
+            return Answer::Refused(18, v as u32, 0);
+        }
+        v += 1;
+    }
+    Answer::Ran(0)
+}
+
+// Refusal 18: a zero-delay loop.
+pub fn loop_refusal(modules: [Module; 256], n: u16, nodes: u16) -> Answer
+    ensures { λ r. ⌜ ((S : Sheet) → Network modules n nodes S → outcomeOf r ≡ first (each (nodeCount S) (loopRows S))) ⌝ }
+{
+    let mut reach = [false; 65536];
+    closure(&mut reach, modules, n, nodes);
+    least(&reach, nodes)
+}

@@ -1,0 +1,49 @@
+-- `read_drive::starts::first_events` meets its contract. The loop's invariant: each node passed has begun. Assumes nothing.
+use mathlib.Core.Path.{_≡_, refl, sym}
+use native.Mathlib.Omega.{arith}
+use Prim.Native.Nat.{_≤_, _-_}
+use Rattle.sheet.specs.Enumerate.{each}
+use Rattle.sheet.specs.Outcome.{finished}
+use Rattle.sheet.specs.Refusal.{first}
+use Rattle.sheet.proofs.Rows.{none-yet, passed-each, refused-each, all-passed}
+use Rattle.read_nodes.proofs.Checks.{no-rows, row-met, row-past}
+use Rattle.read_drive.specs.Begun.{unbegunRows}
+use Rattle.read_drive.proofs.starts.first_events.Statement.{statement}
+use Rattle.read_drive.proofs.starts.first_events.Tie as tie
+
+abbrev Inv-loop : tie.InvT-loop
+Inv-loop nodes begun v₀ v = (v ≤ nodes) × (first (each v (unbegunRows begun)) ≡ finished 0)
+
+abbrev μ-loop : tie.MeasureT-loop
+μ-loop nodes begun v₀ v = nodes - v
+
+returns : tie.Need-returns Inv-loop μ-loop
+returns c =
+    let l = c .before .before .before in
+    sym (refused-each (unbegunRows (l .before .args .begun .now)) (l .loop .v) (l .before .args .nodes) (c .before .before .loop-test .taken) (l .loop .inv .1) (row-met _ _ (c .if1 .taken) refl))
+
+loop-again : tie.Need-loop-again Inv-loop μ-loop
+loop-again c =
+    let l = c .before .before .before in
+    (omega arith, passed-each (unbegunRows (l .before .args .begun .now)) (l .loop .v) (l .loop .inv .1) (row-past _ _ (c .if1 .left) no-rows))
+
+returns-2 : tie.Need-returns-2 Inv-loop μ-loop
+returns-2 c =
+    let l = c .before in
+    all-passed (unbegunRows (l .before .args .begun .now)) _ _ (l .loop .inv .0) (c .loop-test .left) (l .loop .inv .1)
+
+pub first-events-spec : {M : Type 1} → statement M
+first-events-spec =
+    tie.close
+    (tie.spec
+    Inv-loop
+    μ-loop
+    (λ c. (omega arith, none-yet _))
+    (λ c. omega arith)
+    (λ c. omega arith)
+    (λ c. omega arith)
+    returns
+    (λ c. omega arith)
+    (λ c. omega arith)
+    loop-again
+    returns-2)

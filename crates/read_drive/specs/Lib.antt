@@ -1,0 +1,3 @@
+-- What the check of an event tells, and which nodes have begun.
+pub mod Told
+pub mod Begun

@@ -1,0 +1,51 @@
+-- `reader::read_sheet` meets its contract: the four sections' rows are all the bytes' rows. Assumes nothing.
+use mathlib.Core.Path.{sym, subst}
+use borrow.Author.Needs.{needs}
+use Rattle.sheet.specs.declared.Edition.{Edition}
+use Rattle.reader.specs.Read.{ReadTo}
+use Rattle.reader.proofs.Whole.{whole-refused, whole-held}
+use Rattle.reader.proofs.read_sheet.Statement.{statement}
+use Rattle.reader.proofs.read_sheet.Tie as tie
+
+unread-requires : tie.Need-unread-requires
+unread-requires c κs = search needs
+
+read-sections-requires : tie.Need-read-sections-requires
+read-sections-requires c κs =
+    let told = c .unread .ensures in
+    let s = c .before .before .args .bytes .now in
+    (subst (λ (e : Edition). ReadTo e s 0 (c .unread .result)) (sym (told .1)) (told .2 s), told .0)
+
+-- the sections are those of the edition that was asked for
+sections : (c : tie.After-read-sections) → let args = c .before .before .before .args in ReadTo (args .e) (args .bytes .now) 4 (c .read-sections .result)
+sections c =
+    subst (λ (e : Edition). ReadTo e (c .before .before .before .args .bytes .now) 4 (c .read-sections .result)) (c .before .unread .ensures .1) (c .read-sections .ensures)
+
+enum-told : tie.Need-enum-told
+enum-told c = search needs
+
+enum-told-2 : tie.Need-enum-told-2
+enum-told-2 c = search needs
+
+no-contents-requires : tie.Need-no-contents-requires
+no-contents-requires c κs = search needs
+
+returns : tie.Need-returns
+returns c =
+    let r = c .before .before .before in
+    whole-refused _ _ (sections r) (c .before .enum-told2 .given .1) (c .no-contents .ensures)
+
+returns-2 : tie.Need-returns-2
+returns-2 c = whole-held _ _ (sections (c .before .before .before)) (c .before .enum-told .given .1)
+
+pub read-sheet-spec : {M : Type 1} → statement M
+read-sheet-spec =
+    tie.close
+    (tie.spec
+    unread-requires
+    read-sections-requires
+    enum-told
+    enum-told-2
+    no-contents-requires
+    returns
+    returns-2)

@@ -1,0 +1,2 @@
+-- The modules' records in an order.
+pub mod Records

@@ -1,0 +1,55 @@
+-- The changes due at a tick, taken one after the other, each given to its module's node. Assumes nothing.
+use mathlib.Core.List.{List, [], _∷_, _++_, List·Memᴰ·head, Memᴰ·append-left, Memᴰ·append-right}
+use mathlib.Core.Path.{_≡_, refl, subst}
+use Prim.Native.Nat.{ℕ, _<_, _≤_}
+use lib.ListN.{length, take}
+use Rattle.model.specs.Change.{Change}
+use Rattle.model.specs.Passes.{moduleIn, give, giveAll}
+use Rattle.pending.specs.declared.Scan.{Scan}
+use Rattle.pending.specs.declared.Due.{Due}
+use Rattle.pending.specs.declared.Due.the-variants as due
+use Rattle.pending.specs.Flat.{places}
+use Rattle.pending.specs.FlatLaws.{flat}
+use Rattle.pending.specs.Taking.{Taking, OneTaken, AllTaken, TakenOn}
+use Rattle.pending.proofs.Taking.{at-start}
+use Rattle.tick.specs.Tables.{modulesIn}
+use Rattle.tick.specs.Rest.{Levels, Placed}
+use Rattle.tick.proofs.Passes.{giveAll-more}
+
+-- some changes are taken, and given
+pub record Given (table : List ℕ) (t : ℕ) (store₀ : List ℕ) (count : ℕ) (values₀ store values : List ℕ) (scan : Scan) : Type 0 where
+  pub taken : List Change
+  pub taking : Taking (take count store₀) t taken store count scan
+  pub given : (delays : List ℕ) (n : ℕ) → Placed n taken → values ≡ giveAll (modulesIn table delays n) taken values₀
+  pub levels : Levels values
+
+pub none-given : (table : List ℕ) (t : ℕ) (store₀ : List ℕ) (count : ℕ) {values₀ : List ℕ} → count ≤ places → length store₀ ≡ places → Levels values₀ → Given table t store₀ count values₀ store₀ values₀ (record { kept = 0; at = 0 })
+unfolding giveAll
+none-given table t store₀ count h e l = record { taken = []; taking = at-start t store₀ count e h; given = λ delays n p. refl; levels = l }
+
+module _ {table : List ℕ} {t : ℕ} {store₀ : List ℕ} {count : ℕ} {values₀ store values : List ℕ} {scan : Scan} (g : Given table t store₀ count values₀ store values scan) (store′ : List ℕ) {met : Due} (told : (start : List ℕ) (taken : List Change) → Taking start t taken store count scan → TakenOn start t taken store′ count scan met) where
+  -- what is met is a change
+  module _ {k v : ℕ} {next : Scan} (e : met ≡ due.Change k v next) where
+    pub one-taken : OneTaken (take count store₀) t (g .taken) store′ count scan (record { due = t; position = k; value = v }) next
+    one-taken = subst (λ d. TakenOn (take count store₀) t (g .taken) store′ count scan d) e (told (take count store₀) (g .taken) (g .taking))
+
+    pub one-given : {values′ : List ℕ} → ((delays : List ℕ) (n : ℕ) → k < n → values′ ≡ give (moduleIn (modulesIn table delays n) k) v values) × Levels values′
+        → Given table t store₀ count values₀ store′ values′ next
+    one-given {values′} gave =
+        record { taken = g .taken ++ x ∷ []; taking = one-taken .taking; given = given; levels = gave .1 }
+      where
+        x : Change
+        x = record { due = t; position = k; value = v }
+
+        given : (delays : List ℕ) (n : ℕ) → Placed n (g .taken ++ x ∷ []) → values′ ≡ giveAll (modulesIn table delays n) (g .taken ++ x ∷ []) values₀
+        given delays n p =
+            rw (giveAll-more, ← g .given delays n (λ y m. p y (Memᴰ·append-left (x ∷ []) m)))
+            (gave .0 delays n (p x (Memᴰ·append-right (g .taken) (List·Memᴰ·head refl))))
+
+  -- no more of them
+  pub all-given : {n : ℕ} → met ≡ due.Done n
+      → ((delays : List ℕ) (m : ℕ) → Placed m (flat .due (take count store₀) t) → values ≡ giveAll (modulesIn table delays m) (flat .due (take count store₀) t) values₀)
+      × (take n store′ ≡ flat .rest (take count store₀) t) × (n ≤ count) × (length store′ ≡ places) × Levels values
+  all-given {n} e =
+      let a : AllTaken (take count store₀) t (g .taken) store′ count n = subst (λ d. TakenOn (take count store₀) t (g .taken) store′ count scan d) e (told (take count store₀) (g .taken) (g .taking)) in
+      (rw (a .takes) at (g .given), a .stay, a .fewer, a .size, g .levels)

@@ -1,0 +1,8 @@
+-- What the functions' proofs share.
+pub mod Tables
+pub mod Values
+pub mod Rules
+pub mod Drive
+pub mod Passes
+pub mod Given
+pub mod Worked

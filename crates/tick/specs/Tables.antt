@@ -1,0 +1,55 @@
+-- The modules and the drive as a tick reads them: bytes and numbers in arrays, which are lent.
+use mathlib.Core.List.{List}
+use mathlib.Core.Path.{_≡_}
+use Prim.Native.Nat.{ℕ, _+_, _*_}
+use lib.ListN.{getD, set}
+use Rattle.sheet.specs.declared.Module.{Module}
+use Rattle.sheet.specs.declared.Event.{Event}
+use Rattle.sheet.specs.Enumerate.{listed}
+
+-- byte f of the module at position k, which has 8 bytes: kind, parameter, output, first input, second input
+abbrev pub tableAt : List ℕ → ℕ → ℕ → ℕ
+tableAt table k f = getD table (8 * k + f) 0
+
+-- the module at position k; its delay stands beside its bytes
+abbrev pub moduleAtTable : List ℕ → List ℕ → ℕ → Module
+moduleAtTable table delays k =
+    record {
+      kind = tableAt table k 0;
+      parameter = tableAt table k 1;
+      output = tableAt table k 2;
+      first = tableAt table k 3;
+      second = tableAt table k 4;
+      delay = getD delays k 0;
+    }
+
+-- the first n modules
+unfoldable pub modulesIn : List ℕ → List ℕ → ℕ → List Module
+modulesIn table delays n = listed n (moduleAtTable table delays)
+
+-- the event of a number: an array for each of its parts
+abbrev pub eventAtTable : List ℕ → List ℕ → List ℕ → ℕ → Event
+eventAtTable ticks nodes levels e = record { tick = getD ticks e 0; node = getD nodes e 0; value = getD levels e 0 }
+
+-- the first n events
+unfoldable pub driveIn : List ℕ → List ℕ → List ℕ → ℕ → List Event
+driveIn ticks nodes levels n = listed n (eventAtTable ticks nodes levels)
+
+-- the table with a module's bytes at position k
+abbrev pub withModule : List ℕ → ℕ → Module → List ℕ
+withModule table k m =
+    set
+    (set (set (set (set table (8 * k) (m .kind)) (8 * k + 1) (m .parameter)) (8 * k + 2) (m .output)) (8 * k + 3) (m .first))
+    (8 * k + 4)
+    (m .second)
+
+-- a module is put to position k, and nothing else is touched
+pub record ModulePut (table delays : List ℕ) (k : ℕ) (m : Module) (table′ delays′ : List ℕ) : Type 0 where
+  pub bytes : table′ ≡ withModule table k m
+  pub delay : delays′ ≡ set delays k (m .delay)
+
+-- an event is put under a number, and nothing else is touched
+pub record EventPut (ticks nodes levels : List ℕ) (e : ℕ) (event : Event) (ticks′ nodes′ levels′ : List ℕ) : Type 0 where
+  pub tick : ticks′ ≡ set ticks e (event .tick)
+  pub node : nodes′ ≡ set nodes e (event .node)
+  pub value : levels′ ≡ set levels e (event .value)

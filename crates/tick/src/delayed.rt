@@ -1,0 +1,76 @@
+// The delayed modules: what each comes to now is scheduled, if it differs from what it came to last.
+use crate::bytes::wide16;
+use crate::contribution::comes_to;
+use pending::Store;
+ghost use mathlib.Core.Path.{_≡_};
+ghost use Prim.Native.Nat.{ℕ, _+_, _<_, _≤_};
+ghost use lib.ListN.{length, take};
+ghost use Rattle.level.specs.Table.{tables};
+ghost use Rattle.sheet.specs.Limits.{greatestHorizon};
+ghost use Rattle.model.specs.Passes.{scheduleOne, schedule};
+ghost use Rattle.pending.specs.Flat.{places};
+ghost use Rattle.pending.specs.FlatLaws.{flat};
+ghost use Rattle.tick.specs.Tables.{tableAt, modulesIn};
+ghost use Rattle.tick.specs.Rest.{Known, KnownIn, Levels};
+ghost use Rattle.tick.specs.Tick.{scheduled};
+
+// Schedules what the module at position k comes to. Answers how many changes are pending then.
+fn schedule_one(
+    gates: &[u8; 104],
+    table: &[u8; 2048],
+    delays: &[u16; 256],
+    k: usize,
+    t: u32,
+    horizon: u32,
+    values: &[u8; 256],
+    last: &mut [u8; 256],
+    store: &mut Store,
+    count: usize,
+) -> usize
+    requires { ⌜ (k < 256) × (now gates ≡ tables) × Known (tableAt (now table) k 0) (tableAt (now table) k 1) × (t < horizon)
+        × (horizon ≤ greatestHorizon) × Levels (now values) × Levels (now last) × (length (now store) ≡ places) × (count < places) ⌝ }
+    ensures { λ r. ⌜ ((n : ℕ) → k < n → scheduled (now (last .exit)) (take r (now (store .exit)))
+        ≡ scheduleOne flat (modulesIn (now (table .entry)) (now (delays .entry)) n) t horizon (now (values .entry))
+        (scheduled (now (last .entry)) (take count (now (store .entry)))) k)
+        × (r ≤ count + 1) × (length (now (store .exit)) ≡ places) × Levels (now (last .exit)) ⌝ }
+{
+    let value = comes_to(gates, table, k, values, &*last);
+    if value == last[k] {
+        return count;
+    }
+    last[k] = value;
+    let due = t + wide16(delays[k]);
+    if due < horizon {
+        return pending::put(store, count, due, k, value);
+    }
+    count
+}
+
+// Schedules what the first n modules come to. Answers how many changes are pending then.
+pub(crate) fn schedule_all(
+    gates: &[u8; 104],
+    table: &[u8; 2048],
+    delays: &[u16; 256],
+    n: usize,
+    t: u32,
+    horizon: u32,
+    values: &[u8; 256],
+    last: &mut [u8; 256],
+    store: &mut Store,
+    count: usize,
+) -> usize
+    requires { ⌜ (n ≤ 256) × (now gates ≡ tables) × KnownIn (now table) n × (t < horizon) × (horizon ≤ greatestHorizon)
+        × Levels (now values) × Levels (now last) × (length (now store) ≡ places) × (count + n ≤ places) ⌝ }
+    ensures { λ r. ⌜ ((modules : ℕ) → n ≤ modules → scheduled (now (last .exit)) (take r (now (store .exit)))
+        ≡ schedule flat (modulesIn (now (table .entry)) (now (delays .entry)) modules) t horizon (now (values .entry)) n
+        (scheduled (now (last .entry)) (take count (now (store .entry)))))
+        × (r ≤ count + n) × (length (now (store .exit)) ≡ places) × Levels (now (last .exit)) ⌝ }
+{
+    let mut k: usize = 0;
+    let mut c = count;
+    while k < n {
+        c = schedule_one(gates, table, delays, k, t, horizon, values, last, store, c);
+        k += 1;
+    }
+    c
+}

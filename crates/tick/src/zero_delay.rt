@@ -1,0 +1,51 @@
+// The modules of delay zero, worked in their order over the present values.
+use crate::contribution::comes_to;
+use crate::contribution::give;
+ghost use mathlib.Core.List.{List};
+ghost use mathlib.Core.Path.{_≡_};
+ghost use Prim.Native.Nat.{ℕ, _-_, _<_, _≤_};
+ghost use Rattle.level.specs.Table.{tables};
+ghost use Rattle.model.specs.Passes.{settleOne, settle};
+ghost use Rattle.tick.specs.Tables.{tableAt, modulesIn};
+ghost use Rattle.tick.specs.Rest.{Known, KnownIn, Levels};
+ghost use Rattle.tick.specs.Tick.{settled};
+
+// Works the module at position k.
+fn settle_one(
+    gates: &[u8; 104],
+    table: &[u8; 2048],
+    k: usize,
+    values: &mut [u8; 256],
+    last: &mut [u8; 256],
+)
+    requires { ⌜ (k < 256) × (now gates ≡ tables) × Known (tableAt (now table) k 0) (tableAt (now table) k 1) × Levels (now values)
+        × Levels (now last) ⌝ }
+    ensures { λ _. ⌜ ((delays : List ℕ) (n : ℕ) → k < n → settled (now (values .exit)) (now (last .exit))
+        ≡ settleOne (modulesIn (now (table .entry)) delays n) (settled (now (values .entry)) (now (last .entry))) k)
+        × Levels (now (values .exit)) × Levels (now (last .exit)) ⌝ }
+{
+    let value = comes_to(gates, table, k, &*values, &*last);
+    give(table, k, value, values);
+    last[k] = value;
+}
+
+// Works the modules from a position up to another.
+pub(crate) fn settle_all(
+    gates: &[u8; 104],
+    table: &[u8; 2048],
+    from: usize,
+    to: usize,
+    values: &mut [u8; 256],
+    last: &mut [u8; 256],
+)
+    requires { ⌜ (from ≤ to) × (to ≤ 256) × (now gates ≡ tables) × KnownIn (now table) to × Levels (now values) × Levels (now last) ⌝ }
+    ensures { λ _. ⌜ ((delays : List ℕ) → settled (now (values .exit)) (now (last .exit))
+        ≡ settle (modulesIn (now (table .entry)) delays to) from (to - from) (settled (now (values .entry)) (now (last .entry))))
+        × Levels (now (values .exit)) × Levels (now (last .exit)) ⌝ }
+{
+    let mut k = from;
+    while k < to {
+        settle_one(gates, table, k, values, last);
+        k += 1;
+    }
+}
