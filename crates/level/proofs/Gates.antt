@@ -67,6 +67,10 @@ most-inputs kind p = rw (same-inputs kind p) (by (ltb kind 10) refl)
 pub length-used : (kind parameter : ℕ) (l : List ℕ) → 2 ≤ length l → length (take (inputsOf (ruleOf kind parameter)) l) ≡ inputsOf (ruleOf kind parameter)
 length-used kind p l two = length-take (inputsOf (ruleOf kind p)) l ∙ min-eq-left (omega (arith, most-inputs kind p))
 
+pub length-tables : length tables ≡ 104
+unfolding tables
+length-tables = refl
+
 -- a gate's entry in the tables is what its rule comes to
 pub gate-entry : (kind : ℕ) (inputs : List ℕ) → 1 ≤ kind → kind ≤ 8 → length inputs ≡ inputsOf (ruleOf kind 0) → Values inputs → getD tables (entryOf kind inputs) 0 ≡ comesTo (ruleOf kind 0) inputs 0
 unfolding tables
@@ -138,3 +142,16 @@ start-of-one k l h = eqb→eq _ _ (in-stretch (λ k. eqb (tableStart k) (4 * k -
 
 pub start-of-two : (k : ℕ) → 3 ≤ k → k ≤ 8 → tableStart k ≡ 16 * k - 40
 start-of-two k l h = eqb→eq _ _ (in-stretch (λ k. eqb (tableStart k) (16 * k - 40)) 3 6 tt k l (omega arith))
+
+-- their entries
+pub one-entry : (k a : ℕ) → 1 ≤ k → k ≤ 2 → a < 4 → getD tables (tableStart k + a) 0 ≡ comesTo (ruleOf k 0) (a ∷ []) 0
+one-entry k a l h f = ap (λ p. getD tables p 0) place ∙ gate-entry k (a ∷ []) l (omega arith) (sym (inputs-one k l h)) (f, tt)
+  where
+    place : tableStart k + a ≡ entryOf k (a ∷ [])
+    place = omega arith
+
+pub two-entry : (k a b : ℕ) → 3 ≤ k → k ≤ 8 → a < 4 → b < 4 → getD tables (tableStart k + (4 * a + b)) 0 ≡ comesTo (ruleOf k 0) (a ∷ b ∷ []) 0
+two-entry k a b l h f s = ap (λ p. getD tables p 0) place ∙ gate-entry k (a ∷ b ∷ []) (omega arith) h (sym (inputs-two k l h)) (f, (s, tt))
+  where
+    place : tableStart k + (4 * a + b) ≡ entryOf k (a ∷ b ∷ [])
+    place = omega arith

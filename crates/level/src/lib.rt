@@ -1,13 +1,13 @@
 // The four values of a cell, and the gates' rules as constant tables over them.
 ghost use mathlib.Core.Path.{_≡_};
 ghost use mathlib.Core.List.{List, [], _∷_};
-ghost use Prim.Native.Nat.{ℕ, _%_, _<_, _≤_};
+ghost use Prim.Native.Nat.{ℕ, _+_, _%_, _≤_};
 ghost use lib.ListN.{take};
 ghost use Rattle.level.specs.Level.{printed};
 ghost use Rattle.level.specs.Gate.{member};
 ghost use Rattle.level.specs.Rule.{inputsOf, comesTo};
 ghost use Rattle.level.specs.Kind.{ruleOf};
-ghost use Rattle.level.specs.Table.{tables, entryOf};
+ghost use Rattle.level.specs.Table.{tableStart, tables};
 
 // The last kind that has a rule, and the kind of a memory.
 pub const LAST_KIND: u8 = 9;
@@ -193,20 +193,20 @@ impl Level {
         TABLES
     }
 
-    // Where the entry of a gate of one input stands in the tables: where its kind's table begins, and the place of the input's value in it.
-    pub fn place_of_one(kind: u8, first: u8) -> usize
-        requires { ⌜ (1 ≤ kind) × (kind ≤ 2) × (first < 4) ⌝ }
-        ensures { λ r. ⌜ (r < 104) × (r ≡ entryOf kind (first ∷ [])) ⌝ }
+    // Where the table of a gate of one input begins: it has 4 entries, by the input's value.
+    pub fn start_of_one(kind: u8) -> usize
+        requires { ⌜ (1 ≤ kind) × (kind ≤ 2) ⌝ }
+        ensures { λ r. ⌜ (r ≡ tableStart kind) × (r + 4 ≤ 104) ⌝ }
     {
-        4 * (kind as usize) + (first as usize) - 4
+        4 * (kind as usize) - 4
     }
 
-    // The same of a gate of two inputs.
-    pub fn place_of_two(kind: u8, first: u8, second: u8) -> usize
-        requires { ⌜ (3 ≤ kind) × (kind ≤ 8) × (first < 4) × (second < 4) ⌝ }
-        ensures { λ r. ⌜ (r < 104) × (r ≡ entryOf kind (first ∷ second ∷ [])) ⌝ }
+    // Where the table of a gate of two inputs begins: it has 16 entries, by the first input's value and then the second's.
+    pub fn start_of_two(kind: u8) -> usize
+        requires { ⌜ (3 ≤ kind) × (kind ≤ 8) ⌝ }
+        ensures { λ r. ⌜ (r ≡ tableStart kind) × (r + 16 ≤ 104) ⌝ }
     {
-        16 * (kind as usize) + 4 * (first as usize) + (second as usize) - 40
+        16 * (kind as usize) - 40
     }
 
     // A constant, kind 0: its parameter, whatever the inputs and the value held.
@@ -223,9 +223,9 @@ impl Level {
         if kind == 0 {
             Level::LOW
         } else if kind <= LAST_OF_ONE {
-            TABLES[Level::place_of_one(kind, first % 4)]
+            TABLES[Level::start_of_one(kind) + (first % 4) as usize]
         } else if kind < MEMORY {
-            TABLES[Level::place_of_two(kind, first % 4, second % 4)]
+            TABLES[Level::start_of_two(kind) + 4 * ((first % 4) as usize) + (second % 4) as usize]
         } else if kind == MEMORY {
             Level::LOW
         } else {

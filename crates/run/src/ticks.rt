@@ -19,7 +19,7 @@ ghost use Rattle.run.specs.Ready.{kept, Ready};
 pub(crate) fn ticks(
     shape: Shape,
     horizon: u32,
-    gates: &[u8; 104],
+    gates: &[u8],
     table: &[u8; 2048],
     delays: &[u16; 256],
     times: &[u32; 1024],

@@ -15,7 +15,7 @@ ghost use Rattle.tick.specs.Tables.{tableAt, modulesIn};
 ghost use Rattle.tick.specs.Rest.{Known, Levels};
 
 // What a module comes to at its inputs' values, holding the value that it came to last.
-fn rule(gates: &[u8; 104], kind: u8, parameter: u8, first: u8, second: u8, held: u8) -> u8
+fn rule(gates: &[u8], kind: u8, parameter: u8, first: u8, second: u8, held: u8) -> u8
     requires { ⌜ (now gates ≡ tables) × Known kind parameter × (first < 4) × (second < 4) × (held < 4) ⌝ }
     ensures { λ r. ⌜ (r ≡ comesTo (ruleOf kind parameter) (take (inputsOf (ruleOf kind parameter)) (first ∷ second ∷ [])) held)
         × (r < 4) ⌝ }
@@ -24,10 +24,12 @@ fn rule(gates: &[u8; 104], kind: u8, parameter: u8, first: u8, second: u8, held:
         return parameter;
     }
     if kind <= LAST_OF_ONE {
-        return gates[Level::place_of_one(kind, first)];
+        let row = &gates[Level::start_of_one(kind)..];
+        return row[wide(first)];
     }
     if kind < MEMORY {
-        return gates[Level::place_of_two(kind, first, second)];
+        let row = &gates[Level::start_of_two(kind)..];
+        return row[4 * wide(first) + wide(second)];
     }
     if Level::in_set(parameter, second) {
         first
@@ -38,7 +40,7 @@ fn rule(gates: &[u8; 104], kind: u8, parameter: u8, first: u8, second: u8, held:
 
 // What the module at position k comes to over the present values, holding the value that it came to last.
 pub(crate) fn comes_to(
-    gates: &[u8; 104],
+    gates: &[u8],
     table: &[u8; 2048],
     k: usize,
     values: &[u8; 256],

@@ -16,7 +16,7 @@ ghost use Rattle.tick.specs.Tick.{scheduled};
 
 // Schedules what the module at position k comes to. Answers how many changes are pending then.
 fn schedule_one(
-    gates: &[u8; 104],
+    gates: &[u8],
     table: &[u8; 2048],
     delays: &[u16; 256],
     k: usize,
@@ -48,7 +48,7 @@ fn schedule_one(
 
 // Schedules what the first n modules come to. Answers how many changes are pending then.
 pub(crate) fn schedule_all(
-    gates: &[u8; 104],
+    gates: &[u8],
     table: &[u8; 2048],
     delays: &[u16; 256],
     n: usize,

@@ -38,7 +38,7 @@ pub fn work(
     shape: Shape,
     horizon: u32,
     t: u32,
-    gates: &[u8; 104],
+    gates: &[u8],
     table: &[u8; 2048],
     delays: &[u16; 256],
     ticks: &[u32; 1024],

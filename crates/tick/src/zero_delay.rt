@@ -12,7 +12,7 @@ ghost use Rattle.tick.specs.Tick.{settled};
 
 // Works the module at position k.
 fn settle_one(
-    gates: &[u8; 104],
+    gates: &[u8],
     table: &[u8; 2048],
     k: usize,
     values: &mut [u8; 256],
@@ -31,7 +31,7 @@ fn settle_one(
 
 // Works the modules from a position up to another.
 pub(crate) fn settle_all(
-    gates: &[u8; 104],
+    gates: &[u8],
     table: &[u8; 2048],
     from: usize,
     to: usize,

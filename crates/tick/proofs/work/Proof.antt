@@ -17,23 +17,23 @@ give-due-requires c κs = search needs
 settle-all-requires : tie.Need-settle-all-requires
 settle-all-requires c κs =
     let b = c .before .before .before .before .before .before .before in
-    let p = b .pre .0 in
-    (p .few-delayed, p .few-modules, b .pre .1, known-in (b .args .table .now) (b .args .delays .now) (b .args .shape .modules) (p .known), c .before .before .give-due .ensures .4, p .last-levels)
+    let p = b .before .pre .0 in
+    (p .few-delayed, p .few-modules, b .before .pre .1, known-in (b .before .args .table .now) (b .before .args .delays .now) (b .before .args .shape .modules) (p .known), c .before .before .give-due .ensures .4, p .last-levels)
 
 schedule-all-requires : tie.Need-schedule-all-requires
 schedule-all-requires c κs =
     let b = c .before .before .before .before .before .before .before .before .before .before .before in
-    let p = b .pre .0 in
+    let p = b .before .pre .0 in
     let g = c .before .before .before .before .before .before .give-due .ensures in
     let z = c .before .before .before .settle-all .ensures in
-    let known = known-in (b .args .table .now) (b .args .delays .now) (b .args .shape .modules) (p .known) in
-    (omega (arith, p .few-modules, p .few-delayed), b .pre .1, λ k h. known k (omega (arith, p .few-delayed)), p .below, p .few-ticks, z .1, z .2, g .3, omega (arith, p .few-modules, p .few-delayed, p .few-pending, g .2))
+    let known = known-in (b .before .args .table .now) (b .before .args .delays .now) (b .before .args .shape .modules) (p .known) in
+    (omega (arith, p .few-modules, p .few-delayed), b .before .pre .1, λ k h. known k (omega (arith, p .few-delayed)), p .below, p .few-ticks, z .1, z .2, g .3, omega (arith, p .few-modules, p .few-delayed, p .few-pending, g .2))
 
 returns : tie.Need-returns
 returns c =
     let b = c .before .before .before .before .before .before .before .before .before .before .before .before in
-    let a = b .args in
-    let p = b .pre .0 in
+    let a = b .before .args in
+    let p = b .before .pre .0 in
     let d = c .before .before .before .before .before .before .before .before .before .before .drive-all .ensures in
     let g = c .before .before .before .before .before .before .before .give-due .ensures in
     let z = c .before .before .before .before .settle-all .ensures in

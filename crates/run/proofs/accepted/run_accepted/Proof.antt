@@ -43,6 +43,9 @@ empty-requires c κs = search needs
 tables-requires : tie.Need-tables-requires
 tables-requires c κs = search needs
 
+slice-aggregate-ticks : tie.Need-slice-aggregate-ticks
+slice-aggregate-ticks c = search needs
+
 cast-ticks : tie.Need-cast-ticks
 cast-ticks c = search needs
 
@@ -91,6 +94,7 @@ run-accepted-spec =
     count-delayed-requires
     empty-requires
     tables-requires
+    slice-aggregate-ticks
     cast-ticks
     ticks-requires
     same-length

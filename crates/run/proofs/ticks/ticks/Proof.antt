@@ -22,8 +22,8 @@ abbrev μ-loop : tie.MeasureT-loop
 
 loop-holds : tie.Need-loop-holds Inv-loop μ-loop
 loop-holds c =
-    let p = c .before .pre in
-    let a = c .before .args in
+    let p = c .before .before .pre in
+    let a = c .before .before .args in
     (p .0, λ S R. start R (a .values .now) (a .last .now) (a .shown .now) (a .store .now) refl (p .2) (a .listing .now))
 
 work-requires : tie.Need-work-requires Inv-loop μ-loop
@@ -31,7 +31,7 @@ work-requires c κs =
     let l = c .before .before .before .before in
     let i = l .loop .inv in
     let R = i .0 .1 in
-    (workable R (i .1 _ R) (c .before .before .before .loop-test .taken), l .before .before .pre .1)
+    (workable R (i .1 _ R) (c .before .before .before .loop-test .taken), l .before .before .before .pre .1)
 
 list-requires : tie.Need-list-requires Inv-loop μ-loop
 list-requires c κs =

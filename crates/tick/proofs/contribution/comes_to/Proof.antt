@@ -47,13 +47,13 @@ element-copy-out-rule-3 c = search needs
 rule-requires : tie.Need-rule-requires
 rule-requires c κs =
     let t = c .before .before .before .before .before .before .before .before .before in
-    let p = t .pre in
+    let p = t .before .pre in
     (p .1, rw (add-zero) at (p .2), p .3 .each _, p .3 .each _, p .4 .each _)
 
 returns : tie.Need-returns
 returns c =
     let t = c .before .before .before .before .before in
-    let a = t .before .before .before .before .before .args in
+    let a = t .before .before .before .before .before .before .args in
     (λ delays n h. rw (comes-now (a .table .now) delays (a .values .now) (a .last .now) n (a .k) h, ← t .before .before .before .wide .ensures .0, ← t .wide2 .ensures .0) (c .rule .ensures .0), c .rule .ensures .1)
 
 pub comes-to-spec : {M : Type 1} → statement M

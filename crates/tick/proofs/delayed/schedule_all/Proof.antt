@@ -21,12 +21,12 @@ abbrev μ-loop : tie.MeasureT-loop
 μ-loop gates table delays n t horizon values last₀ store₀ count k₀ c₀ last store k c = n - k
 
 loop-holds : tie.Need-loop-holds Inv-loop μ-loop
-loop-holds c = (omega arith, omega arith, λ modules h. none-scheduled _ _ _ _ _, c .pre .7, c .pre .6)
+loop-holds c = (omega arith, omega arith, λ modules h. none-scheduled _ _ _ _ _, c .before .pre .7, c .before .pre .6)
 
 schedule-one-requires : tie.Need-schedule-one-requires Inv-loop μ-loop
 schedule-one-requires c κs =
     let t = c .before .before .before in
-    let p = t .before .pre in
+    let p = t .before .before .pre in
     (omega arith, p .1, p .2 (t .loop .k) (omega arith), p .3, p .4, p .5, t .loop .inv .4, t .loop .inv .3, omega arith)
 
 add-k : tie.Need-add-k Inv-loop μ-loop
@@ -44,7 +44,7 @@ loop-again c =
 returns : tie.Need-returns Inv-loop μ-loop
 returns c =
     let t = c .before in
-    let e : t .loop .k ≡ t .before .args .n = omega arith in
+    let e : t .loop .k ≡ t .before .before .args .n = omega arith in
     (λ modules h. rw e at (t .loop .inv .2 modules h), omega arith, t .loop .inv .3, t .loop .inv .4)
 
 pub schedule-all-spec : {M : Type 1} → statement M

@@ -19,12 +19,12 @@ abbrev μ-loop : tie.MeasureT-loop
 μ-loop gates table from to values₀ last₀ k₀ values last k = to - k
 
 loop-holds : tie.Need-loop-holds Inv-loop μ-loop
-loop-holds c = (omega arith, omega arith, λ delays. none-settled _ _ _, c .pre .4, c .pre .5)
+loop-holds c = (omega arith, omega arith, λ delays. none-settled _ _ _, c .before .pre .4, c .before .pre .5)
 
 settle-one-requires : tie.Need-settle-one-requires Inv-loop μ-loop
 settle-one-requires c κs =
     let t = c .before .before .before in
-    let p = t .before .pre in
+    let p = t .before .before .pre in
     (omega arith, p .2, p .3 (t .loop .k) (omega arith), t .loop .inv .3, t .loop .inv .4)
 
 add-k : tie.Need-add-k Inv-loop μ-loop
@@ -37,12 +37,12 @@ loop-again : tie.Need-loop-again Inv-loop μ-loop
 loop-again c =
     let t = c .before .before .before .before in
     let e = c .settle-one .ensures in
-    (omega arith, omega arith, λ delays. one-more-settled _ _ _ (t .loop .inv .0) (t .loop .inv .2 delays) (e .0 delays (t .before .args .to) (omega arith)), e .1, e .2)
+    (omega arith, omega arith, λ delays. one-more-settled _ _ _ (t .loop .inv .0) (t .loop .inv .2 delays) (e .0 delays (t .before .before .args .to) (omega arith)), e .1, e .2)
 
 returns : tie.Need-returns Inv-loop μ-loop
 returns c =
     let t = c .before in
-    let e : t .loop .k ≡ t .before .args .to = omega arith in
+    let e : t .loop .k ≡ t .before .before .args .to = omega arith in
     (λ delays. rw e at (t .loop .inv .2 delays), t .loop .inv .3, t .loop .inv .4)
 
 pub settle-all-spec : {M : Type 1} → statement M

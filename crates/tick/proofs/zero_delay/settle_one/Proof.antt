@@ -16,7 +16,7 @@ element-write-last c = search needs
 returns : tie.Need-returns
 returns c =
     let e = c .before .before .comes-to .ensures in
-    (λ delays n h. rw (c .give .ensures .0 delays n h, e .0 delays n h), c .give .ensures .1, levels-set (c .before .before .before .before .before .pre .4) _ _ (e .1))
+    (λ delays n h. rw (c .give .ensures .0 delays n h, e .0 delays n h), c .give .ensures .1, levels-set (c .before .before .before .before .before .before .pre .4) _ _ (e .1))
 
 pub settle-one-spec : {M : Type 1} → statement M
 settle-one-spec = tie.close (tie.spec comes-to-requires give-requires element-write-last returns)
