@@ -14,10 +14,10 @@ use Rattle.sheet.specs.declared.Edition.{Edition}
 use Rattle.sheet.specs.Limits.{inputByte, lastValue}
 use Rattle.sheet.specs.Outcome.{finished}
 use Rattle.sheet.specs.Bytes.{wordAt}
-use Rattle.sheet.specs.Sheet.{Sheet, nodeCount, nodeByte, moduleCount, moduleOf, outputOf, eventCount, eventOf, watchedCount, watchedNode}
+use Rattle.sheet.specs.Sheet.{Sheet, nodeCount, moduleCount, moduleOf, outputOf, eventCount, eventOf, watchedCount, watchedNode}
 use Rattle.sheet.specs.Layout.{countSize, nodesCounted, nodeAt, modulesCounted, moduleAt, eventsCounted, eventAt, watchedPlace, watchedCounted, watchedAt, sheetEnd, sheetOf}
 use Rattle.sheet.specs.Wiring.{isInput, drivenAtStart}
-use Rattle.sheet.specs.Loop.{Chain, link, more, OnLoop, Outputs}
+use Rattle.sheet.specs.Loop.{Chain, link, more, OnLoop}
 use Rattle.sheet.specs.Refusal.{key, checked}
 use Rattle.format.specs.Accepted.{Driven, Input, SoundModule, SoundEvent, Accepted, Known, the-first, AcceptedIn}
 use Rattle.format.specs.Condition.{Count, of-nodes, of-modules, of-drive, of-watched, Part, a-count, a-node, a-module, an-event, a-watched, Miswired, output-no-node, input-no-node, unused-not-0, NotAbove, not-above, Condition, ends-inside, outside-range, byte-above, kind-above, parameter-not-allowed, wrong-wiring, delay-above, already-driven, driven-or-not, tick-above, not-an-input, value-above, not-above-before, no-first-event, wrong-watched, left-over, on-loop}

@@ -10,7 +10,7 @@ use Rattle.sheet.specs.declared.Edition.{Edition}
 use Rattle.sheet.specs.declared.Module.{Module}
 use Rattle.sheet.specs.Enumerate.{anyOf}
 use Rattle.sheet.specs.Limits.{inputByte}
-use Rattle.sheet.specs.Sheet.{Sheet, nodeCount, moduleCount, moduleOf, outputOf, eventCount, eventOf}
+use Rattle.sheet.specs.Sheet.{Sheet, nodeCount, moduleCount, outputOf, eventCount, eventOf}
 use Rattle.sheet.specs.Layout.{nodesCounted, nodeAt, modulesCounted, moduleAt, eventAt, watchedAt, sheetOf}
 use Rattle.sheet.specs.Wiring.{usedInputs, unusedInputs, drivenBy, isDriven, isInput, drivenAtStart}
 use Rattle.sheet.specs.Refusal.{miswired, key, notAboveEvent, notAboveWatched}

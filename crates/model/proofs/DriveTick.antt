@@ -18,11 +18,12 @@ use Rattle.sheet.specs.Limits.{inputByte}
 use Rattle.sheet.specs.Sheet.{Sheet, nodeCount, nodeByte, noEvent, eventCount, eventOf}
 use Rattle.sheet.proofs.Each.{each-mem}
 use Rattle.sheet.proofs.Listed.{getD-mem}
-use Rattle.sheet.proofs.Tests.{Tells, tells-eq, tells-and, tells-below, decided, fails}
+use Rattle.sheet.proofs.Tests.{tells-below, decided, fails}
 use Rattle.format.specs.Accepted.{Accepted, Driven, Input}
 use Rattle.network.specs.Timeline.{Cells, given, driveCell}
 use Rattle.network.proofs.Rising.{mem-place, members-all}
 use Rattle.network.proofs.Drivable.{drivable}
+use Rattle.network.proofs.Drive.{On, on-test}
 use Rattle.network.proofs.Count.{count, count-at-most}
 use Rattle.model.specs.Drive.{nextEvent, driven, driveTick, eventsBelow}
 use Rattle.model.specs.State.{firstValue}
@@ -50,13 +51,6 @@ module _ (S : Sheet) (t : ℕ) where
       ones =
           first-ones (λ e. ltb (eventOf S e .tick) t) (eventCount S)
           (λ j k l h p. lt-ltb (eventOf S j .tick) t (omega (arith, acc .drive-rises j k l h, byte j (omega arith), byte k h, ltb-true (eventOf S k .tick) t p))) e h
-
--- an event at a tick on a node
-abbrev On : ℕ → ℕ → Event → Type 0
-On v t e = (e .tick ≡ t) × (e .node ≡ v)
-
-on-test : (v t : ℕ) (e : Event) → Tells (eqb (e .tick) t && eqb (e .node) v) (On v t e)
-on-test v t e = tells-and _ _ (tells-eq (e .tick) t) (tells-eq (e .node) v)
 
 -- what the drive gives, where all events give one value and there is one or it stood there
 module _ (v t b w : ℕ) where

@@ -2,8 +2,8 @@
 -- it comes to. Assumes nothing.
 use borrow.Author.Tests.{lt-ltb, le-ltb}
 use lib.ListN.{length, getD, length-map}
-use mathlib.Core.List.{List, [], _∷_, map, List·Memᴰ, List·Memᴰ·head, List·Memᴰ·tail}
-use mathlib.Core.Path.{_≡_, refl, sym, ap, ap₂, _∙_}
+use mathlib.Core.List.{List, List·Memᴰ}
+use mathlib.Core.Path.{_≡_, refl, sym, ap, _∙_}
 use native.Mathlib.Omega.{arith}
 use Prim.Native.Nat.{ℕ, zero, suc, _-_, _≤_, _<_}
 use Rattle.level.specs.Rule.{comesTo}
@@ -18,6 +18,7 @@ use Rattle.format.proofs.Condition.{tells-driven, tells-input}
 use Rattle.network.specs.Timeline.{Cells, driveCell, inputCells, outputCell}
 use Rattle.network.specs.Satisfied.{Satisfied}
 use Rattle.network.proofs.Memory.{at-start, recurrence}
+use Rattle.network.proofs.Equation.{map-same}
 use Rattle.network.proofs.Listed.{position}
 use Rattle.network.proofs.WorkingOrder.{every-module-once, working-order}
 use Rattle.network.proofs.Values.{satisfied-values}
@@ -68,10 +69,6 @@ module _ (S : Sheet) where
 
       pub is-driven : Driven S (placed S k .output)
       is-driven = record { driver = orderedAt S k; listed = known; output = refl }
-
-map-same : (f g : ℕ → ℕ) (l : List ℕ) → ((v : ℕ) → List·Memᴰ v l → f v ≡ g v) → map f l ≡ map g l
-map-same f g [] same = refl
-map-same f g (v ∷ l) same = ap₂ _∷_ (same v (List·Memᴰ·head refl)) (map-same f g l (λ w m. same w (List·Memᴰ·tail m)))
 
 module _ {S : Sheet} {c : Cells} {horizon : ℕ} (G : Setting S c horizon) where
   module _ (k : ℕ) (h : k < moduleCount S) where

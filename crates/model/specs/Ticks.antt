@@ -3,12 +3,12 @@ use mathlib.Core.List.{List, [], _++_}
 use mathlib.Core.Path.{_≡_}
 use Prim.Native.Nat.{ℕ, zero, suc, _<_}
 use lib.ListN.{length, getD}
-use Rattle.sheet.specs.Sheet.{Sheet, nodeCount, nodeByte, moduleCount, moduleOf, outputOf}
+use Rattle.sheet.specs.Sheet.{Sheet, nodeCount, nodeByte, moduleCount, outputOf}
 use Rattle.sheet.specs.WorkingOrder.{workingOrder}
 use Rattle.network.specs.Listing.{Record}
 use Rattle.model.specs.Store.{Store}
 use Rattle.model.specs.Fresh.{notShown}
-use Rattle.model.specs.State.{State, Loaded, Ticked, loadedOf, firstValue, tick}
+use Rattle.model.specs.State.{State, Ticked, loadedOf, firstValue, tick}
 
 -- the module at position k of the working order, as the sheet numbers it
 abbrev pub orderedAt : Sheet → ℕ → ℕ

@@ -20,11 +20,10 @@ use Rattle.network.proofs.Drivable.{drivable}
 use Rattle.network.proofs.Rising.{members-all}
 
 -- an event at a tick on a node
-On : ℕ → ℕ → Event → Type 0
+abbrev pub On : ℕ → ℕ → Event → Type 0
 On v t e = (e .tick ≡ t) × (e .node ≡ v)
 
-on-test : (v t : ℕ) (e : Event) → Tells (eqb (e .tick) t && eqb (e .node) v) (On v t e)
-unfolding On
+pub on-test : (v t : ℕ) (e : Event) → Tells (eqb (e .tick) t && eqb (e .node) v) (On v t e)
 on-test v t e = tells-and (eqb (e .tick) t) (eqb (e .node) v) (tells-eq (e .tick) t) (tells-eq (e .node) v)
 
 module _ (v t before : ℕ) where
@@ -56,7 +55,7 @@ module _ (drive : List Event) (v : ℕ) where
   -- no two events of one tick and node differ in value
   pub latest-value : ((e f : Event) → List·Memᴰ e drive → List·Memᴰ f drive → e .tick ≡ f .tick → e .node ≡ f .node → e .value ≡ f .value)
       → (t : ℕ) (e : Event) → LatestEvent drive v t e → driveCell drive v t ≡ e .value
-  unfolding driveCell On
+  unfolding driveCell
   latest-value one zero e l =
       given-there v zero unknown (e .value) drive (λ f m o. one f e m (l .listed) (omega (arith, o .0, l .tick)) (o .1 ∙ sym (l .node))) e (l .listed) (omega (arith, l .tick), l .node)
   latest-value one (suc t) e l = now (latest-value one t e) (ℕ-discrete (e .tick) (suc t))
@@ -70,7 +69,7 @@ module _ (drive : List Event) (v : ℕ) where
           ∙ earlier (record { listed = l .listed; node = l .node; tick = b; none-later = λ f m n h k. l .none-later f m n h (omega arith) })
 
   pub never-given : (t : ℕ) → ((e : Event) → List·Memᴰ e drive → e .node ≡ v → e .tick ≤ t → ⊥) → driveCell drive v t ≡ unknown
-  unfolding driveCell On
+  unfolding driveCell
   never-given zero none = given-none v zero unknown drive (λ e m o. none e m (o .1) (omega (arith, o .0)))
   never-given (suc t) none =
       given-none v (suc t) (driveCell drive v t) drive (λ e m o. none e m (o .1) (omega (arith, o .0)))

@@ -1,5 +1,4 @@
 -- The laws of this crate that belong to no one function.
-pub mod GroupedLength
 pub mod Group
 pub mod Filled
 pub mod Appending

@@ -7,29 +7,29 @@ use native.Mathlib.Numerals.{add-one}
 use native.Mathlib.Omega.{arith}
 use borrow.Author.Tests.{eq-eqb, ne-eqb}
 use lib.Dec.{eqb}
-use lib.ListN.{length, getD, set, take, drop, length-set}
+use lib.ListN.{getD, set, take, drop, length-set}
 use lib.Seq.{take-suc, drop-cons, take-suc-set, take-set-lt, drop-set-lt, take-all, length-take-le, getD-take}
 use Rattle.level.specs.Choice.{if_then_else_}
 use Rattle.model.specs.Change.{Change}
 use Rattle.pending.specs.declared.Scan.{Scan}
-use Rattle.pending.specs.Flat.{places, Packable, unpacked, flatDue, flatRest}
-use Rattle.pending.specs.FlatLaws.{flat}
-use Rattle.pending.specs.Taking.{Within, Taking, OneTaken, AllTaken}
+use Rattle.pending.specs.Flat.{places, unpacked, flatDue, flatRest}
+use Rattle.pending.specs.Kept.{arrangement, keptIn, Sized}
+use Rattle.pending.specs.Taking.{fromStart, Taking, OneTaken, AllTaken}
 
 abbrev scanned : ℕ → ℕ → Scan
 scanned kept at = record { kept = kept; at = at }
 
 -- so many numbers of a store are so many changes
-pub counts-first : (store : List ℕ) (count : ℕ) → count ≤ length store → flat .count (take count store) ≡ count
-counts-first store count h = length-take-le count store h
+pub counts-first : (store : List ℕ) (count : ℕ) → Sized store → count ≤ places → arrangement .count (keptIn store count) ≡ count
+counts-first store count e h = length-take-le count store (omega arith)
 
 -- before the first change
-pub at-start : (t : ℕ) (store : List ℕ) (count : ℕ) → length store ≡ places → count ≤ places → Taking (take count store) t [] store count (scanned 0 0)
+pub at-start : (t : ℕ) (store : List ℕ) (count : ℕ) → Sized store → count ≤ places → Taking (keptIn store count) t [] store count fromStart
 unfolding flatDue flatRest
 at-start t store count e h =
     record {
       within = record { kept = omega arith; at = omega arith; room = h; size = e };
-      counted = counts-first store count (omega arith);
+      counted = counts-first store count e h;
       takes = refl;
       stay = refl;
       ahead = refl;
@@ -66,7 +66,7 @@ module _ {start : List ℕ} {t : ℕ} {taken : List Change} {store : List ℕ} {
     ahead : here ∷ drop (at + 1) (take count store) ≡ getD start at 0 ∷ drop (at + 1) start
     ahead =
         rw (← getD-take count store at 0 h, add-one)
-        (sym (drop-cons (take count store) at 0 (rw (counts-first store count (omega arith)) h)) ∙ (w .ahead ∙ drop-cons start at 0 (omega arith)))
+        (sym (drop-cons (take count store) at 0 (rw (counts-first store count (w .within .size) (w .within .room)) h)) ∙ (w .ahead ∙ drop-cons start at 0 (omega arith)))
 
     one-more : take (at + 1) start ≡ take at start ++ here ∷ []
     one-more = rw (add-one, cons-head ahead) (take-suc start at 0 (omega arith))
@@ -75,8 +75,9 @@ module _ {start : List ℕ} {t : ℕ} {taken : List Change} {store : List ℕ} {
         → OneTaken start t taken store count from (record { due = t; position = unpacked here .position; value = unpacked here .value }) (scanned kept (at + 1))
     due-passed from b e =
         record {
-          packable = record { position = omega arith; value = omega arith };
-          onward = omega arith;
+          position = omega arith;
+          value = omega arith;
+          nearer = omega arith;
           taking =
               record {
                 within = record { kept = omega arith; at = omega arith; room = w .within .room; size = w .within .size };

@@ -1,13 +1,21 @@
 -- Changes due at a tick are taken one at a time, in one pass over the numbers.
 use mathlib.Core.List.{List, [], _∷_, _++_}
 use mathlib.Core.Path.{_≡_}
-use Prim.Native.Nat.{ℕ, _<_, _≤_}
+use Prim.Native.Nat.{ℕ, _-_, _<_, _≤_}
 use lib.ListN.{length, take, drop}
 use Rattle.model.specs.Change.{Change}
 use Rattle.pending.specs.declared.Scan.{Scan}
 use Rattle.pending.specs.declared.Due.{Due}
 use Rattle.pending.specs.declared.Due.the-variants as due
-use Rattle.pending.specs.Flat.{places, Packable, flatDue, flatRest}
+use Rattle.pending.specs.Flat.{places, flatDue, flatRest}
+use Rattle.pending.specs.Kept.{arrangement, keptIn}
+
+-- where a pass begins, and how far it has to go
+abbrev pub fromStart : Scan
+fromStart = record { kept = 0; at = 0 }
+
+abbrev pub toGo : ℕ → Scan → ℕ
+toGo count scan = count - scan .at
 
 -- a scan within the first `count` numbers of a store
 pub record Within (store : List ℕ) (count : ℕ) (scan : Scan) : Type 0 where
@@ -28,14 +36,15 @@ module _ (start : List ℕ) (t : ℕ) where
 
   -- one more change is taken, and the scan has gone on past it
   pub record OneTaken (taken : List Change) (store : List ℕ) (count : ℕ) (from : Scan) (x : Change) (scan : Scan) : Type 0 where
-    pub packable : Packable x
-    pub onward : from .at < scan .at
+    pub position : x .position < 256
+    pub value : x .value < 4
+    pub nearer : toGo count scan < toGo count from
     pub taking : Taking (taken ++ x ∷ []) store count scan
 
   -- all that are due are taken, and the n that stay stand first
   pub record AllTaken (taken : List Change) (store : List ℕ) (count n : ℕ) : Type 0 where
-    pub takes : taken ≡ flatDue start t
-    pub stay : take n store ≡ flatRest start t
+    pub takes : taken ≡ arrangement .due start t
+    pub stay : keptIn store n ≡ arrangement .rest start t
     pub fewer : n ≤ count
     pub size : length store ≡ places
 

@@ -4,11 +4,9 @@ use sheet::PENDING_LIMIT;
 ghost use mathlib.Core.List.{List};
 ghost use mathlib.Core.Path.{_≡_};
 ghost use Prim.Native.Nat.{ℕ, _+_, _<_, _^_};
-ghost use lib.ListN.{length, take};
 ghost use Rattle.model.specs.Change.{Change};
-ghost use Rattle.pending.specs.Flat.{places};
-ghost use Rattle.pending.specs.FlatLaws.{flat};
-ghost use Rattle.pending.specs.Taking.{Within, Taking, TakenOn};
+ghost use Rattle.pending.specs.Kept.{arrangement, keptIn, pendingRoom, Sized};
+ghost use Rattle.pending.specs.Taking.{fromStart, Within, Taking, TakenOn};
 
 // As many as may be pending after a tick, and one more of each module.
 const PLACES: usize = PENDING_LIMIT + (MOST_MODULES as usize);
@@ -29,20 +27,27 @@ pub enum Due {
 
 // Room for the pending changes, none of them put yet.
 pub fn empty() -> Store
-    ensures { λ r. ⌜ length r ≡ places ⌝ }
+    ensures { λ r. ⌜ Sized r ⌝ }
 {
     [0; PLACES]
 }
 
 // Puts a change behind the `count` that are pending. Answers how many are pending then.
 pub fn put(store: &mut Store, count: usize, due: u32, position: usize, value: u8) -> usize
-    requires { ⌜ (count < places) × (due < 2 ^ 22) × (position < 256) × (value < 4) × (length (now store) ≡ places) ⌝ }
+    requires { ⌜ (count < pendingRoom) × (due < 2 ^ 22) × (position < 256) × (value < 4) × Sized (now store) ⌝ }
     ensures { λ r. ⌜
-        (take r (now (store .exit)) ≡ flat .put (take count (now (store .entry))) (record { due = due; position = position; value = value }))
-        × (r ≡ count + 1) × (length (now (store .exit)) ≡ places) ⌝ }
+        (keptIn (now (store .exit)) r ≡ arrangement .put (keptIn (now (store .entry)) count) (record { due = due; position = position; value = value }))
+        × (r ≡ count + 1) × Sized (now (store .exit)) ⌝ }
 {
     store[count] = due * 1024 + (position as u32) * 4 + (value as u32);
     count + 1
+}
+
+// Where the pass over the pending changes begins, at each tick.
+pub fn from_start() -> Scan
+    ensures { λ r. ⌜ r ≡ fromStart ⌝ }
+{
+    Scan { kept: 0, at: 0 }
 }
 
 // Goes on from `scan` over the `count` pending changes to the next one that is due at tick t.

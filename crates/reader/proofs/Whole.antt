@@ -7,7 +7,7 @@ use Rattle.sheet.specs.declared.Contents.{Contents}
 use Rattle.sheet.specs.declared.Edition.{Edition}
 use Rattle.sheet.specs.Contents.{Holds, noSheet}
 use Rattle.sheet.specs.Layout.{sheetOf}
-use Rattle.sheet.specs.Outcome.{finished, outcomeOf}
+use Rattle.sheet.specs.Outcome.{outcomeOf}
 use Rattle.sheet.specs.Refusal.{first, bytesRows}
 use Rattle.sheet.proofs.Parts.{node-count, module-count, event-count, watched-count}
 use Rattle.sheet.proofs.Rows.{finished≢refused, passed}

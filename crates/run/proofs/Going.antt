@@ -18,14 +18,14 @@ use Rattle.network.specs.Run.{wrote, ranSheet, Leaves}
 use Rattle.model.specs.Change.{Change}
 use Rattle.model.specs.Drive.{eventIn, eventsBelow, nextEvent}
 use Rattle.model.specs.Fresh.{fresh}
-use Rattle.model.specs.State.{State, Loaded, delayedCount, loadedOf}
+use Rattle.model.specs.State.{State, Loaded, delayedCount}
 use Rattle.model.specs.Ticks.{tickOf, stateAt, recordsBelow}
 use Rattle.model.proofs.Setting.{module-total}
 use Rattle.model.proofs.DelayedFirst.{delayed-at-most, delayed-listed}
 use Rattle.model.proofs.Stands.{stands}
 use Rattle.model.proofs.Ran.{Passes, setting, full, crowded, whole}
-use Rattle.pending.specs.Flat.{places}
-use Rattle.pending.specs.FlatLaws.{flat}
+use Rattle.pending.proofs.Taking.{counts-first}
+use Rattle.pending.specs.Kept.{arrangement, keptIn, Sized}
 use Rattle.tick.specs.declared.Shape.{Shape}
 use Rattle.tick.specs.declared.Standing.{Standing}
 use Rattle.tick.specs.Rest.{Levels, Placed}
@@ -40,20 +40,20 @@ use Rattle.load.proofs.Begun.{known-modules, driving}
 use Rattle.run.specs.Ready.{kept, Ready}
 
 -- before tick t: the arrays, the first event that is not before it, the changes pending and the records written
-pub record Going (S : Sheet) (st : State flat) (horizon : ℕ) (buffer : List ℕ) (t next due n : ℕ) (values last shown store listing : List ℕ) : Type 0 where
+pub record Going (S : Sheet) (st : State arrangement) (horizon : ℕ) (buffer : List ℕ) (t next due n : ℕ) (values last shown store listing : List ℕ) : Type 0 where
   pub within : t ≤ horizon
   pub driven : next ≡ nextEvent (S .drive) t
-  pub state : kept values last shown store due ≡ stateAt flat S horizon st t
+  pub state : kept values last shown store due ≡ stateAt arrangement S horizon st t
   pub few : due ≤ pendingLimit
   pub values-levels : Levels values
   pub last-levels : Levels last
   pub shown-size : length shown ≡ 256
-  pub store-size : length store ≡ places
-  pub counted : n ≡ length (recordsBelow flat S horizon st t)
+  pub store-size : Sized store
+  pub counted : n ≡ length (recordsBelow arrangement S horizon st t)
   pub bounded : n ≤ 256 * t
   pub fits : n ≤ room (length buffer)
-  pub bytes : listing ≡ bufferAfter (recordsBelow flat S horizon st t) buffer
-  pub passed : (u : ℕ) → u < t → Passes flat S horizon st (length buffer) u
+  pub bytes : listing ≡ bufferAfter (recordsBelow arrangement S horizon st t) buffer
+  pub passed : (u : ℕ) → u < t → Passes arrangement S horizon st (length buffer) u
 
 -- no event is before tick 0
 none-before : (drive : List Event) (n : ℕ) → 0 ≡ eventsBelow drive 0 n
@@ -62,17 +62,17 @@ none-before drive zero = refl
 none-before drive (suc n) = rw (← none-before drive n, le-ltb (eventIn drive n .tick) 0 (omega arith))
 
 -- the listing is as long as it was
-pub same-length-so-far : {S : Sheet} {st : State flat} {horizon : ℕ} {buffer : List ℕ} {t next due n : ℕ} {values last shown store now : List ℕ}
+pub same-length-so-far : {S : Sheet} {st : State arrangement} {horizon : ℕ} {buffer : List ℕ} {t next due n : ℕ} {values last shown store now : List ℕ}
     → Going S st horizon buffer t next due n values last shown store now → length now ≡ length buffer
 same-length-so-far {S} {st} {horizon} {buffer} {t} G =
-    let below = recordsBelow flat S horizon st t in
+    let below = recordsBelow arrangement S horizon st t in
     ap length (G .bytes) ∙ buffer-length below buffer (fits-room (length below) (length buffer) .1 (rw (← G .counted) (G .fits)))
 
 same-state : {v v′ l l′ d d′ p p′ : List ℕ} → v ≡ v′ → l ≡ l′ → d ≡ d′ → p ≡ p′
-    → _≡_ {A = State flat} (record { values = v; last = l; shown = d; pending = p }) (record { values = v′; last = l′; shown = d′; pending = p′ })
+    → _≡_ {A = State arrangement} (record { values = v; last = l; shown = d; pending = p }) (record { values = v′; last = l′; shown = d′; pending = p′ })
 same-state e f g h = rw (e, f, g, h)
 
-module _ {S : Sheet} {table delays times nodes levels watched : List ℕ} {st : State flat} {horizon : ℕ} {shape : Shape} {total : ℕ}
+module _ {S : Sheet} {table delays times nodes levels watched : List ℕ} {st : State arrangement} {horizon : ℕ} {shape : Shape} {total : ℕ}
     (R : Ready S table delays times nodes levels watched st horizon shape total) where
   -- the tables' counts
   modules-counted : shape .modules ≡ moduleCount S
@@ -86,9 +86,9 @@ module _ {S : Sheet} {table delays times nodes levels watched : List ℕ} {st : 
 
   -- the records of the ticks below a bound
   abbrev below : ℕ → List Record
-  below = recordsBelow flat S horizon st
+  below = recordsBelow arrangement S horizon st
 
-  pub start : (values last shown store : List ℕ) → st ≡ kept values last shown store 0 → length store ≡ places → (buffer : List ℕ)
+  pub start : (values last shown store : List ℕ) → st ≡ kept values last shown store 0 → Sized store → (buffer : List ℕ)
       → Going S st horizon buffer 0 0 0 0 values last shown store buffer
   unfolding stateAt recordsBelow
   start values last shown store e size buffer =
@@ -124,11 +124,11 @@ module _ {S : Sheet} {table delays times nodes levels watched : List ℕ} {st : 
 
     module _ (h : t < horizon) where
       -- each change that is due is of a module in the tables
-      due-placed : Placed (shape .modules) (flat .due (take due store) t)
+      due-placed : Placed (shape .modules) (arrangement .due (keptIn store due) t)
       due-placed x m =
           let s = stands (setting (R .accepted) horizon) st (R .begun) t (G .within) in
-          let holds = subst (λ k. flat .Holds k (s .held)) (sym (ap (λ x. x .pending) (G .state))) (s .holds) in
-          let in-held = flat .tells-due (take due store) (s .held) t holds x .0 m .0 in
+          let holds = subst (λ k. arrangement .Holds k (s .held)) (sym (ap (λ x. x .pending) (G .state))) (s .holds) in
+          let in-held = arrangement .tells-due (keptIn store due) (s .held) t holds x .0 m .0 in
           let o = s .owing .owed x in-held in
           omega (arith, delayed-listed S (o .0) (o .2 .delayed), ap (λ (y : Change). y .position) (o .3), modules-counted)
 
@@ -154,7 +154,7 @@ module _ {S : Sheet} {table delays times nodes levels watched : List ℕ} {st : 
           delayed-most = delayed-at-most S
 
       -- A tick, from what is kept before it and what its work makes of that.
-      module _ {values′ last′ store′ : List ℕ} {after : Standing} (W : Worked tables horizon t values last (take due store) values′ last′ store′ after) where
+      module _ {values′ last′ store′ : List ℕ} {after : Standing} (W : Worked tables horizon t values last (keptIn store due) values′ last′ store′ after) where
         -- the records of the tick
         abbrev these : List Record
         these = fresh t values′ shown (take total watched)
@@ -166,25 +166,25 @@ module _ {S : Sheet} {table delays times nodes levels watched : List ℕ} {st : 
         same-tables : tables ≡ bare
         same-tables = rw (R .drive, R .modules, R .delayed)
 
-        worked : Worked bare horizon t values last (take due store) values′ last′ store′ after
-        worked = subst (λ l. Worked l horizon t values last (take due store) values′ last′ store′ after) same-tables W
+        worked : Worked bare horizon t values last (keptIn store due) values′ last′ store′ after
+        worked = subst (λ l. Worked l horizon t values last (keptIn store due) values′ last′ store′ after) same-tables W
 
-        abbrev start-of-tick : State flat
+        abbrev start-of-tick : State arrangement
         start-of-tick = kept values last shown store due
 
-        these-records : these ≡ tickOf flat S horizon t (stateAt flat S horizon st t) .records
+        these-records : these ≡ tickOf arrangement S horizon t (stateAt arrangement S horizon st t) .records
         these-records = rw (← G .state, R .watched-there, worked .values-worked)
 
         below-next : below (suc t) ≡ below t ++ these
         unfolding recordsBelow
         below-next = ap (λ rs. below t ++ rs) (sym these-records)
 
-        pending-next : take (after .pending) store′ ≡ stateAt flat S horizon st (suc t) .pending
+        pending-next : keptIn store′ (after .pending) ≡ stateAt arrangement S horizon st (suc t) .pending
         unfolding stateAt
-        pending-next = worked .pending-worked ∙ ap (λ x. tickOf flat S horizon t x .state .pending) (G .state)
+        pending-next = worked .pending-worked ∙ ap (λ x. tickOf arrangement S horizon t x .state .pending) (G .state)
 
-        pending-now : flat .count (stateAt flat S horizon st (suc t) .pending) ≡ after .pending
-        pending-now = ap length (sym pending-next) ∙ omega (arith, length-take (after .pending) store′, W .few, W .store-size)
+        pending-now : arrangement .count (stateAt arrangement S horizon st (suc t) .pending) ≡ after .pending
+        pending-now = ap (arrangement .count) (sym pending-next) ∙ counts-first store′ (after .pending) (W .store-size) (W .few)
 
         below-length : length (below (suc t)) ≡ n + length these
         below-length = ap length below-next ∙ length-append (below t) these ∙ ap (λ k. k + length these) (sym (G .counted))
@@ -212,14 +212,14 @@ module _ {S : Sheet} {table delays times nodes levels watched : List ℕ} {st : 
               ∙ rw (G .counted) (buffer-more (below t) these buffer now (fits-room (length (below t) + length these) (length buffer) .1 (rw (← G .counted) fits-buffer)) (G .bytes))
               ∙ ap (λ rs. bufferAfter rs buffer) (sym below-next)
 
-          shown-next : shown′ ≡ tickOf flat S horizon t start-of-tick .state .shown
+          shown-next : shown′ ≡ tickOf arrangement S horizon t start-of-tick .state .shown
           shown-next = D .now-shown ∙ rw (R .watched-there, worked .values-worked)
 
-          state-next : kept values′ last′ shown′ store′ (after .pending) ≡ stateAt flat S horizon st (suc t)
+          state-next : kept values′ last′ shown′ store′ (after .pending) ≡ stateAt arrangement S horizon st (suc t)
           unfolding stateAt
           state-next =
               same-state (worked .values-worked) (worked .last-worked) shown-next (worked .pending-worked)
-              ∙ ap (λ x. tickOf flat S horizon t x .state) (G .state)
+              ∙ ap (λ x. tickOf arrangement S horizon t x .state) (G .state)
 
           -- 20: too many changes pending
           too-many : pendingLimit < after .pending → Ended buffer now′ (refused 20 t count)
@@ -246,7 +246,7 @@ module _ {S : Sheet} {table delays times nodes levels watched : List ℕ} {st : 
                 passed = λ u. here u (ℕ-discrete u t);
               }
             where
-              here : (u : ℕ) → Dec (u ≡ t) → u < suc t → Passes flat S horizon st (length buffer) u
+              here : (u : ℕ) → Dec (u ≡ t) → u < suc t → Passes arrangement S horizon st (length buffer) u
               here u (yes e) l = rw e (record { room-left = rw below-length fits-buffer; few-pending = rw pending-now few })
               here u (no d) l = G .passed u (omega arith)
 

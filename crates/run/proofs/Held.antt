@@ -7,7 +7,7 @@ use lib.ListN.{length, getD, take, replicate, length-append, length-replicate, L
 use Rattle.sheet.specs.declared.Module.{Module}
 use Rattle.sheet.specs.declared.Contents.{Contents}
 use Rattle.sheet.specs.Limits.{mostNodes, mostModules, mostEvents, mostWatched, inputByte, greatestHorizon}
-use Rattle.sheet.specs.Sheet.{Sheet, noModule, noEvent, nodeCount, moduleCount}
+use Rattle.sheet.specs.Sheet.{Sheet, noModule, noEvent, nodeCount}
 use Rattle.sheet.specs.WorkingOrder.{inWorkingOrder}
 use Rattle.sheet.specs.Contents.{Holds, heldSheet}
 use Rattle.sheet.proofs.Held.{take-filled}
@@ -15,8 +15,7 @@ use Rattle.format.specs.Accepted.{Accepted}
 use Rattle.model.specs.Fresh.{notShown}
 use Rattle.model.specs.Passes.{moduleIn}
 use Rattle.model.specs.State.{delayedBelow}
-use Rattle.pending.specs.FlatLaws.{flat}
-use Rattle.tick.specs.declared.Shape.{Shape}
+use Rattle.pending.specs.Kept.{arrangement}
 use Rattle.tick.specs.Tables.{modulesIn, driveIn}
 use Rattle.tick.specs.Rest.{Levels}
 use Rattle.load.specs.First.{firstOf}
@@ -72,5 +71,5 @@ module _ (contents : Contents) (acc : Accepted (heldSheet contents)) (h : Holds 
           watched-few = omega (arith, h .watched-count, acc .watched);
           begun =
               loaded S acc (contents .nodes) nodes-there records (rw (← h .module-count) ordered)
-              (λ v l. vs v (rw (h .node-count) l)) vl (λ k l. ls k (rw (h .module-count) l)) ll flat refl refl;
+              (λ v l. vs v (rw (h .node-count) l)) vl (λ k l. ls k (rw (h .module-count) l)) ll arrangement refl refl;
         }

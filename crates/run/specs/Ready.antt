@@ -9,15 +9,15 @@ use Rattle.sheet.specs.WorkingOrder.{inWorkingOrder}
 use Rattle.format.specs.Accepted.{Accepted}
 use Rattle.model.specs.State.{State, delayedCount}
 use Rattle.model.specs.Ticks.{Begun}
-use Rattle.pending.specs.FlatLaws.{flat}
+use Rattle.pending.specs.Kept.{arrangement, keptIn}
 use Rattle.tick.specs.declared.Shape.{Shape}
 use Rattle.tick.specs.Tables.{modulesIn, driveIn}
 
 -- the state in the run's arrays, with so many changes pending
-abbrev pub kept : List ℕ → List ℕ → List ℕ → List ℕ → ℕ → State flat
-kept values last shown store count = record { values = values; last = last; shown = shown; pending = take count store }
+abbrev pub kept : List ℕ → List ℕ → List ℕ → List ℕ → ℕ → State arrangement
+kept values last shown store count = record { values = values; last = last; shown = shown; pending = keptIn store count }
 
-pub record Ready (S : Sheet) (table delays times nodes levels watched : List ℕ) (st : State flat) (horizon : ℕ) (shape : Shape) (count : ℕ) : Type 0 where
+pub record Ready (S : Sheet) (table delays times nodes levels watched : List ℕ) (st : State arrangement) (horizon : ℕ) (shape : Shape) (count : ℕ) : Type 0 where
   pub accepted : Accepted S
   pub some-tick : 0 < horizon
   pub few-ticks : horizon ≤ greatestHorizon
@@ -27,4 +27,4 @@ pub record Ready (S : Sheet) (table delays times nodes levels watched : List ℕ
   pub watched-size : length watched ≡ 256
   pub watched-there : take count watched ≡ S .watched
   pub watched-few : count ≤ 256
-  pub begun : Begun flat S st
+  pub begun : Begun arrangement S st

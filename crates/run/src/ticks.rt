@@ -12,7 +12,7 @@ ghost use Rattle.level.specs.Table.{tables};
 ghost use Rattle.sheet.specs.Outcome.{outcomeOf};
 ghost use Rattle.sheet.specs.Sheet.{Sheet};
 ghost use Rattle.network.specs.Run.{ranSheet, Leaves};
-ghost use Rattle.pending.specs.Flat.{places};
+ghost use Rattle.pending.specs.Kept.{Sized};
 ghost use Rattle.run.specs.Ready.{kept, Ready};
 
 // For every sheet that the arrays are ready for, the run is that sheet's.
@@ -33,7 +33,7 @@ pub(crate) fn ticks(
     store: &mut Store,
     listing: &mut [u8],
 ) -> Answer
-    requires { ⌜ ((S : Sheet) × Ready S (now table) (now delays) (now times) (now nodes) (now levels) (now watched) (kept (now values) (now last) (now shown) (now store) 0) horizon shape count) × (now gates ≡ tables) × (length (now store) ≡ places) ⌝ }
+    requires { ⌜ ((S : Sheet) × Ready S (now table) (now delays) (now times) (now nodes) (now levels) (now watched) (kept (now values) (now last) (now shown) (now store) 0) horizon shape count) × (now gates ≡ tables) × Sized (now store) ⌝ }
     ensures { λ r. ⌜ ((S : Sheet) → Ready S (now (table .entry)) (now (delays .entry)) (now (times .entry)) (now (nodes .entry)) (now (levels .entry)) (now (watched .entry)) (kept (now (values .entry)) (now (last .entry)) (now (shown .entry)) (now (store .entry)) 0) horizon shape count → Leaves (ranSheet S horizon (length (now (listing .entry)))) (now (listing .entry)) (outcomeOf r) (now (listing .exit))) ⌝ }
 {
     let mut t: u32 = 0;

@@ -4,6 +4,7 @@ pub mod Limits
 pub mod Sheet
 pub mod Wiring
 pub mod Loop
+pub mod Grouped
 pub mod WorkingOrder
 pub mod Bytes
 pub mod Layout

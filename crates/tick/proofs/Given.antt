@@ -2,15 +2,13 @@
 use mathlib.Core.List.{List, [], _∷_, _++_, List·Memᴰ·head, Memᴰ·append-left, Memᴰ·append-right}
 use mathlib.Core.Path.{_≡_, refl, subst}
 use Prim.Native.Nat.{ℕ, _<_, _≤_}
-use lib.ListN.{length, take}
 use Rattle.model.specs.Change.{Change}
 use Rattle.model.specs.Passes.{moduleIn, give, giveAll}
 use Rattle.pending.specs.declared.Scan.{Scan}
 use Rattle.pending.specs.declared.Due.{Due}
 use Rattle.pending.specs.declared.Due.the-variants as due
-use Rattle.pending.specs.Flat.{places}
-use Rattle.pending.specs.FlatLaws.{flat}
-use Rattle.pending.specs.Taking.{Taking, OneTaken, AllTaken, TakenOn}
+use Rattle.pending.specs.Kept.{arrangement, keptIn, pendingRoom, Sized}
+use Rattle.pending.specs.Taking.{fromStart, Taking, OneTaken, AllTaken, TakenOn}
 use Rattle.pending.proofs.Taking.{at-start}
 use Rattle.tick.specs.Tables.{modulesIn}
 use Rattle.tick.specs.Rest.{Levels, Placed}
@@ -19,19 +17,19 @@ use Rattle.tick.proofs.Passes.{giveAll-more}
 -- some changes are taken, and given
 pub record Given (table : List ℕ) (t : ℕ) (store₀ : List ℕ) (count : ℕ) (values₀ store values : List ℕ) (scan : Scan) : Type 0 where
   pub taken : List Change
-  pub taking : Taking (take count store₀) t taken store count scan
+  pub taking : Taking (keptIn store₀ count) t taken store count scan
   pub given : (delays : List ℕ) (n : ℕ) → Placed n taken → values ≡ giveAll (modulesIn table delays n) taken values₀
   pub levels : Levels values
 
-pub none-given : (table : List ℕ) (t : ℕ) (store₀ : List ℕ) (count : ℕ) {values₀ : List ℕ} → count ≤ places → length store₀ ≡ places → Levels values₀ → Given table t store₀ count values₀ store₀ values₀ (record { kept = 0; at = 0 })
+pub none-given : (table : List ℕ) (t : ℕ) (store₀ : List ℕ) (count : ℕ) {values₀ : List ℕ} → count ≤ pendingRoom → Sized store₀ → Levels values₀ → Given table t store₀ count values₀ store₀ values₀ fromStart
 unfolding giveAll
 none-given table t store₀ count h e l = record { taken = []; taking = at-start t store₀ count e h; given = λ delays n p. refl; levels = l }
 
 module _ {table : List ℕ} {t : ℕ} {store₀ : List ℕ} {count : ℕ} {values₀ store values : List ℕ} {scan : Scan} (g : Given table t store₀ count values₀ store values scan) (store′ : List ℕ) {met : Due} (told : (start : List ℕ) (taken : List Change) → Taking start t taken store count scan → TakenOn start t taken store′ count scan met) where
   -- what is met is a change
   module _ {k v : ℕ} {next : Scan} (e : met ≡ due.Change k v next) where
-    pub one-taken : OneTaken (take count store₀) t (g .taken) store′ count scan (record { due = t; position = k; value = v }) next
-    one-taken = subst (λ d. TakenOn (take count store₀) t (g .taken) store′ count scan d) e (told (take count store₀) (g .taken) (g .taking))
+    pub one-taken : OneTaken (keptIn store₀ count) t (g .taken) store′ count scan (record { due = t; position = k; value = v }) next
+    one-taken = subst (λ d. TakenOn (keptIn store₀ count) t (g .taken) store′ count scan d) e (told (keptIn store₀ count) (g .taken) (g .taking))
 
     pub one-given : {values′ : List ℕ} → ((delays : List ℕ) (n : ℕ) → k < n → values′ ≡ give (moduleIn (modulesIn table delays n) k) v values) × Levels values′
         → Given table t store₀ count values₀ store′ values′ next
@@ -48,8 +46,8 @@ module _ {table : List ℕ} {t : ℕ} {store₀ : List ℕ} {count : ℕ} {value
 
   -- no more of them
   pub all-given : {n : ℕ} → met ≡ due.Done n
-      → ((delays : List ℕ) (m : ℕ) → Placed m (flat .due (take count store₀) t) → values ≡ giveAll (modulesIn table delays m) (flat .due (take count store₀) t) values₀)
-      × (take n store′ ≡ flat .rest (take count store₀) t) × (n ≤ count) × (length store′ ≡ places) × Levels values
+      → ((delays : List ℕ) (m : ℕ) → Placed m (arrangement .due (keptIn store₀ count) t) → values ≡ giveAll (modulesIn table delays m) (arrangement .due (keptIn store₀ count) t) values₀)
+      × (keptIn store′ n ≡ arrangement .rest (keptIn store₀ count) t) × (n ≤ count) × Sized store′ × Levels values
   all-given {n} e =
-      let a : AllTaken (take count store₀) t (g .taken) store′ count n = subst (λ d. TakenOn (take count store₀) t (g .taken) store′ count scan d) e (told (take count store₀) (g .taken) (g .taking)) in
+      let a : AllTaken (keptIn store₀ count) t (g .taken) store′ count n = subst (λ d. TakenOn (keptIn store₀ count) t (g .taken) store′ count scan d) e (told (keptIn store₀ count) (g .taken) (g .taking)) in
       (rw (a .takes) at (g .given), a .stay, a .fewer, a .size, g .levels)

@@ -10,7 +10,7 @@ use lib.ListN.{getD, set}
 use Rattle.sheet.specs.declared.Module.{Module}
 use Rattle.model.specs.Change.{Change}
 use Rattle.model.specs.Passes.{moduleIn, give, giveAll, comesToNow, Settled, settleOne, settle, Scheduled, scheduleOne, schedule}
-use Rattle.pending.specs.FlatLaws.{flat}
+use Rattle.pending.specs.Kept.{arrangement}
 use Rattle.tick.specs.Tables.{modulesIn}
 use Rattle.tick.specs.Tick.{scheduled}
 use Rattle.tick.proofs.Tables.{module-at}
@@ -34,10 +34,10 @@ module _ (modules : List Module) (from : ℕ) (st : Settled) where
       rw (j, p, ← b) a
 
 -- the module at position k of the table, which comes to a value
-module _ (table delays : List ℕ) (t horizon : ℕ) (values last pending : List ℕ) (k : ℕ) {value : ℕ} (e : (n : ℕ) → k < n → value ≡ comesToNow (modulesIn table delays n) values last k) where
+module _ (table delays : List ℕ) (t horizon : ℕ) (values last : List ℕ) (pending : arrangement .Kept) (k : ℕ) {value : ℕ} (e : (n : ℕ) → k < n → value ≡ comesToNow (modulesIn table delays n) values last k) where
   -- what is to be scheduled, however many modules the table has
-  abbrev One : Scheduled flat → Type 0
-  One after = (n : ℕ) → k < n → after ≡ scheduleOne flat (modulesIn table delays n) t horizon values (scheduled last pending) k
+  abbrev One : Scheduled arrangement → Type 0
+  One after = (n : ℕ) → k < n → after ≡ scheduleOne arrangement (modulesIn table delays n) t horizon values (scheduled last pending) k
 
   pub unchanged : value ≡ getD last k 0 → One (scheduled last pending)
   unchanged h n l = rw (← e n l, eq-eqb value (getD last k 0) h)
@@ -46,18 +46,18 @@ module _ (table delays : List ℕ) (t horizon : ℕ) (values last pending : List
     delayed : (n : ℕ) → k < n → moduleIn (modulesIn table delays n) k .delay ≡ delay
     delayed n l = rw (module-at table delays n k l, d)
 
-    pub below-horizon : t + delay < horizon → One (scheduled (set last k value) (flat .put pending (record { due = t + delay; position = k; value = value })))
+    pub below-horizon : t + delay < horizon → One (scheduled (set last k value) (arrangement .put pending (record { due = t + delay; position = k; value = value })))
     below-horizon b n l = rw (← e n l, ne-eqb value (getD last k 0) h, delayed n l, lt-ltb (t + delay) horizon b)
 
     pub past-horizon : horizon ≤ t + delay → One (scheduled (set last k value) pending)
     past-horizon b n l = rw (← e n l, ne-eqb value (getD last k 0) h, delayed n l, le-ltb (t + delay) horizon b)
 
-module _ (modules : List Module) (t horizon : ℕ) (values : List ℕ) (st : Scheduled flat) where
-  pub none-scheduled : st ≡ schedule flat modules t horizon values 0 st
+module _ (modules : List Module) (t horizon : ℕ) (values : List ℕ) (st : Scheduled arrangement) where
+  pub none-scheduled : st ≡ schedule arrangement modules t horizon values 0 st
   unfolding schedule
   none-scheduled = refl
 
-  pub one-more-scheduled : (k : ℕ) {before after : Scheduled flat} → before ≡ schedule flat modules t horizon values k st → after ≡ scheduleOne flat modules t horizon values before k
-      → after ≡ schedule flat modules t horizon values (k + 1) st
+  pub one-more-scheduled : (k : ℕ) {before after : Scheduled arrangement} → before ≡ schedule arrangement modules t horizon values k st → after ≡ scheduleOne arrangement modules t horizon values before k
+      → after ≡ schedule arrangement modules t horizon values (k + 1) st
   unfolding schedule
   one-more-scheduled k b a = rw (add-one, ← b) a

@@ -6,16 +6,16 @@ use lib.ListN.{length}
 use Rattle.model.specs.Drive.{driveTick}
 use Rattle.model.specs.Passes.{giveAll, settle, schedule}
 use Rattle.model.specs.State.{Loaded, State}
-use Rattle.pending.specs.FlatLaws.{flat}
+use Rattle.pending.specs.Kept.{arrangement}
 use Rattle.tick.specs.Tick.{settled, scheduled, workedTick}
 
-module _ (l : Loaded) (horizon t : ℕ) (values last pending : List ℕ) {n : ℕ} (size : length (l .modules) ≡ n) {driven given values′ settled-last last′ kept pending′ : List ℕ}
+module _ (l : Loaded) (horizon t : ℕ) (values last : List ℕ) (pending : arrangement .Kept) {n : ℕ} (size : length (l .modules) ≡ n) {driven given values′ settled-last last′ : List ℕ} {kept pending′ : arrangement .Kept}
     (d : driven ≡ driveTick (l .drive) t values)
-    (g : given ≡ giveAll (l .modules) (flat .due pending t) driven)
-    (k : kept ≡ flat .rest pending t)
+    (g : given ≡ giveAll (l .modules) (arrangement .due pending t) driven)
+    (k : kept ≡ arrangement .rest pending t)
     (z : settled values′ settled-last ≡ settle (l .modules) (l .delayed) (n - l .delayed) (settled given last))
-    (h : scheduled last′ pending′ ≡ schedule flat (l .modules) t horizon values′ (l .delayed) (scheduled settled-last kept)) where
-  abbrev After : State flat
+    (h : scheduled last′ pending′ ≡ schedule arrangement (l .modules) t horizon values′ (l .delayed) (scheduled settled-last kept)) where
+  abbrev After : State arrangement
   After = workedTick l horizon t values last pending
 
   pub worked : (values′ ≡ After .values) × (last′ ≡ After .last) × (pending′ ≡ After .pending)

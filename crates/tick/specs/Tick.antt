@@ -2,13 +2,11 @@
 use mathlib.Core.List.{List, []}
 use mathlib.Core.Path.{_≡_}
 use Prim.Native.Nat.{ℕ, suc, _<_, _≤_}
-use lib.ListN.{length, take}
 use Rattle.sheet.specs.Limits.{mostModules, mostEvents, pendingLimit, greatestHorizon}
 use Rattle.model.specs.Drive.{nextEvent}
 use Rattle.model.specs.Passes.{Settled, Scheduled}
 use Rattle.model.specs.State.{State, Loaded, tick}
-use Rattle.pending.specs.Flat.{places}
-use Rattle.pending.specs.FlatLaws.{flat}
+use Rattle.pending.specs.Kept.{arrangement, keptIn, pendingRoom, Sized}
 use Rattle.tick.specs.Tables.{modulesIn, driveIn}
 use Rattle.tick.specs.Rest.{AllKnown, Levels, Driving, Placed}
 use Rattle.tick.specs.declared.Shape.{Shape}
@@ -18,7 +16,7 @@ use Rattle.tick.specs.declared.Standing.{Standing}
 abbrev pub settled : List ℕ → List ℕ → Settled
 settled values last = record { values = values; last = last }
 
-abbrev pub scheduled : List ℕ → List ℕ → Scheduled flat
+abbrev pub scheduled : List ℕ → arrangement .Kept → Scheduled arrangement
 scheduled last pending = record { last = last; pending = pending }
 
 -- what stands in the tables; the watched nodes do not matter to the modules
@@ -40,25 +38,25 @@ pub record Workable (shape : Shape) (l : Loaded) (horizon t : ℕ) (values last 
   pub driving : Driving (l .drive)
   pub next : before .next ≡ nextEvent (l .drive) t
   pub few-pending : before .pending ≤ pendingLimit
-  pub placed : Placed (shape .modules) (flat .due (take (before .pending) store) t)
+  pub placed : Placed (shape .modules) (arrangement .due (keptIn store (before .pending)) t)
   pub below : t < horizon
   pub few-ticks : horizon ≤ greatestHorizon
   pub values-levels : Levels values
   pub last-levels : Levels last
-  pub store-size : length store ≡ places
+  pub store-size : Sized store
 
 -- what is shown does not matter to it
-abbrev pub workedTick : Loaded → ℕ → ℕ → List ℕ → List ℕ → List ℕ → State flat
+abbrev pub workedTick : Loaded → ℕ → ℕ → List ℕ → List ℕ → arrangement .Kept → State arrangement
 workedTick l horizon t values last pending =
-    tick flat l horizon t (record { values = values; last = last; shown = []; pending = pending }) .state
+    tick arrangement l horizon t (record { values = values; last = last; shown = []; pending = pending }) .state
 
 -- the arrays after a tick's work, and what stands then
-pub record Worked (l : Loaded) (horizon t : ℕ) (values last pending values′ last′ store′ : List ℕ) (after : Standing) : Type 0 where
+pub record Worked (l : Loaded) (horizon t : ℕ) (values last : List ℕ) (pending : arrangement .Kept) (values′ last′ store′ : List ℕ) (after : Standing) : Type 0 where
   pub values-worked : values′ ≡ workedTick l horizon t values last pending .values
   pub last-worked : last′ ≡ workedTick l horizon t values last pending .last
-  pub pending-worked : take (after .pending) store′ ≡ workedTick l horizon t values last pending .pending
+  pub pending-worked : keptIn store′ (after .pending) ≡ workedTick l horizon t values last pending .pending
   pub next : after .next ≡ nextEvent (l .drive) (suc t)
-  pub few : after .pending ≤ places
+  pub few : after .pending ≤ pendingRoom
   pub values-levels : Levels values′
   pub last-levels : Levels last′
-  pub store-size : length store′ ≡ places
+  pub store-size : Sized store′

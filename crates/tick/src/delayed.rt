@@ -4,12 +4,10 @@ use crate::contribution::comes_to;
 use pending::Store;
 ghost use mathlib.Core.Path.{_≡_};
 ghost use Prim.Native.Nat.{ℕ, _+_, _<_, _≤_};
-ghost use lib.ListN.{length, take};
 ghost use Rattle.level.specs.Table.{tables};
 ghost use Rattle.sheet.specs.Limits.{greatestHorizon};
 ghost use Rattle.model.specs.Passes.{scheduleOne, schedule};
-ghost use Rattle.pending.specs.Flat.{places};
-ghost use Rattle.pending.specs.FlatLaws.{flat};
+ghost use Rattle.pending.specs.Kept.{arrangement, keptIn, pendingRoom, Sized};
 ghost use Rattle.tick.specs.Tables.{tableAt, modulesIn};
 ghost use Rattle.tick.specs.Rest.{Known, KnownIn, Levels};
 ghost use Rattle.tick.specs.Tick.{scheduled};
@@ -28,11 +26,11 @@ fn schedule_one(
     count: usize,
 ) -> usize
     requires { ⌜ (k < 256) × (now gates ≡ tables) × Known (tableAt (now table) k 0) (tableAt (now table) k 1) × (t < horizon)
-        × (horizon ≤ greatestHorizon) × Levels (now values) × Levels (now last) × (length (now store) ≡ places) × (count < places) ⌝ }
-    ensures { λ r. ⌜ ((n : ℕ) → k < n → scheduled (now (last .exit)) (take r (now (store .exit)))
-        ≡ scheduleOne flat (modulesIn (now (table .entry)) (now (delays .entry)) n) t horizon (now (values .entry))
-        (scheduled (now (last .entry)) (take count (now (store .entry)))) k)
-        × (r ≤ count + 1) × (length (now (store .exit)) ≡ places) × Levels (now (last .exit)) ⌝ }
+        × (horizon ≤ greatestHorizon) × Levels (now values) × Levels (now last) × Sized (now store) × (count < pendingRoom) ⌝ }
+    ensures { λ r. ⌜ ((n : ℕ) → k < n → scheduled (now (last .exit)) (keptIn (now (store .exit)) r)
+        ≡ scheduleOne arrangement (modulesIn (now (table .entry)) (now (delays .entry)) n) t horizon (now (values .entry))
+        (scheduled (now (last .entry)) (keptIn (now (store .entry)) count)) k)
+        × (r ≤ count + 1) × Sized (now (store .exit)) × Levels (now (last .exit)) ⌝ }
 {
     let value = comes_to(gates, table, k, values, &*last);
     if value == last[k] {
@@ -60,11 +58,11 @@ pub(crate) fn schedule_all(
     count: usize,
 ) -> usize
     requires { ⌜ (n ≤ 256) × (now gates ≡ tables) × KnownIn (now table) n × (t < horizon) × (horizon ≤ greatestHorizon)
-        × Levels (now values) × Levels (now last) × (length (now store) ≡ places) × (count + n ≤ places) ⌝ }
-    ensures { λ r. ⌜ ((modules : ℕ) → n ≤ modules → scheduled (now (last .exit)) (take r (now (store .exit)))
-        ≡ schedule flat (modulesIn (now (table .entry)) (now (delays .entry)) modules) t horizon (now (values .entry)) n
-        (scheduled (now (last .entry)) (take count (now (store .entry)))))
-        × (r ≤ count + n) × (length (now (store .exit)) ≡ places) × Levels (now (last .exit)) ⌝ }
+        × Levels (now values) × Levels (now last) × Sized (now store) × (count + n ≤ pendingRoom) ⌝ }
+    ensures { λ r. ⌜ ((modules : ℕ) → n ≤ modules → scheduled (now (last .exit)) (keptIn (now (store .exit)) r)
+        ≡ schedule arrangement (modulesIn (now (table .entry)) (now (delays .entry)) modules) t horizon (now (values .entry)) n
+        (scheduled (now (last .entry)) (keptIn (now (store .entry)) count)))
+        × (r ≤ count + n) × Sized (now (store .exit)) × Levels (now (last .exit)) ⌝ }
 {
     let mut k: usize = 0;
     let mut c = count;

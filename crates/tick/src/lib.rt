@@ -16,7 +16,7 @@ pub use crate::load::load_module;
 use crate::zero_delay::settle_all;
 use pending::Store;
 ghost use mathlib.Core.Path.{_≡_};
-ghost use lib.ListN.{take};
+ghost use Rattle.pending.specs.Kept.{keptIn};
 ghost use Rattle.level.specs.Table.{tables};
 ghost use Rattle.tick.specs.Tick.{Workable, Worked, loadedIn};
 
@@ -54,7 +54,7 @@ pub fn work(
         × (now gates ≡ tables) ⌝ }
     ensures { λ r. ⌜ Worked
         (loadedIn (now (table .entry)) (now (delays .entry)) (now (ticks .entry)) (now (nodes .entry)) (now (levels .entry)) shape)
-        horizon t (now (values .entry)) (now (last .entry)) (take (before .pending) (now (store .entry)))
+        horizon t (now (values .entry)) (now (last .entry)) (keptIn (now (store .entry)) (before .pending))
         (now (values .exit)) (now (last .exit)) (now (store .exit)) r ⌝ }
 {
     let delayed = shape.delayed;

@@ -1,6 +1,6 @@
 -- `tick::work` meets its contract: the passes over the arrays are the tick's work. Assumes nothing.
 use native.Mathlib.Omega.{arith}
-use lib.ListN.{take}
+use Rattle.pending.specs.Kept.{keptIn}
 use Rattle.tick.specs.Tick.{loadedIn}
 use Rattle.tick.proofs.Tables.{length-modules, known-in}
 use Rattle.tick.proofs.Worked.{worked}
@@ -38,7 +38,7 @@ returns c =
     let g = c .before .before .before .before .before .before .before .give-due .ensures in
     let z = c .before .before .before .before .settle-all .ensures in
     let h = c .schedule-all .ensures in
-    let w = worked (loadedIn (a .table .now) (a .delays .now) (a .ticks .now) (a .nodes .now) (a .levels .now) (a .shape)) (a .horizon) (a .t) (a .values .now) (a .last .now) (take (a .before .pending) (a .store .now)) (length-modules (a .table .now) (a .delays .now) (a .shape .modules)) (d .1) (g .0 (a .delays .now) (a .shape .modules) (p .placed)) (g .1) (z .0 (a .delays .now)) (h .0 (a .shape .modules) (p .few-delayed)) in
+    let w = worked (loadedIn (a .table .now) (a .delays .now) (a .ticks .now) (a .nodes .now) (a .levels .now) (a .shape)) (a .horizon) (a .t) (a .values .now) (a .last .now) (keptIn (a .store .now) (a .before .pending)) (length-modules (a .table .now) (a .delays .now) (a .shape .modules)) (d .1) (g .0 (a .delays .now) (a .shape .modules) (p .placed)) (g .1) (z .0 (a .delays .now)) (h .0 (a .shape .modules) (p .few-delayed)) in
     record {
       values-worked = w .0;
       last-worked = w .1;

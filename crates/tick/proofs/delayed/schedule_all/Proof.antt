@@ -2,10 +2,8 @@
 use mathlib.Core.Path.{_≡_}
 use Prim.Native.Nat.{ℕ, _+_, _-_, _≤_}
 use native.Mathlib.Omega.{arith}
-use lib.ListN.{length, take}
 use Rattle.model.specs.Passes.{schedule}
-use Rattle.pending.specs.Flat.{places}
-use Rattle.pending.specs.FlatLaws.{flat}
+use Rattle.pending.specs.Kept.{arrangement, keptIn, Sized}
 use Rattle.tick.specs.Tables.{modulesIn}
 use Rattle.tick.specs.Rest.{Levels}
 use Rattle.tick.specs.Tick.{scheduled}
@@ -15,7 +13,7 @@ use Rattle.tick.proofs.delayed.schedule_all.Tie as tie
 
 abbrev Inv-loop : tie.InvT-loop
 Inv-loop gates table delays n t horizon values last₀ store₀ count k₀ c₀ last store k c =
-    (k ≤ n) × (c ≤ count + k) × ((modules : ℕ) → n ≤ modules → scheduled last (take c store) ≡ schedule flat (modulesIn table delays modules) t horizon values k (scheduled last₀ (take count store₀))) × (length store ≡ places) × Levels last
+    (k ≤ n) × (c ≤ count + k) × ((modules : ℕ) → n ≤ modules → scheduled last (keptIn store c) ≡ schedule arrangement (modulesIn table delays modules) t horizon values k (scheduled last₀ (keptIn store₀ count))) × (Sized store) × Levels last
 
 abbrev μ-loop : tie.MeasureT-loop
 μ-loop gates table delays n t horizon values last₀ store₀ count k₀ c₀ last store k c = n - k

@@ -1,7 +1,7 @@
 -- `tick::delayed::schedule_one` meets its contract: the same value as last, a change below the horizon, or one past it. Assumes nothing.
 use native.Mathlib.Omega.{arith}
 use borrow.Author.Needs.{needs}
-use lib.ListN.{take}
+use Rattle.pending.specs.Kept.{keptIn}
 use Rattle.tick.proofs.Values.{levels-set}
 use Rattle.tick.proofs.Passes.{unchanged, below-horizon, past-horizon}
 use Rattle.tick.proofs.delayed.schedule_one.Statement.{statement}
@@ -17,7 +17,7 @@ returns : tie.Need-returns
 returns c =
     let v = c .before .before in
     let a = v .before .before .before .args in
-    (unchanged (a .table .now) (a .delays .now) (a .t) (a .horizon) (a .values .now) (a .last .now) (take (a .count) (a .store .now)) (a .k) (v .comes-to .ensures .0 (a .delays .now)) (c .if1 .taken), omega arith, v .before .before .before .pre .7, v .before .before .before .pre .6)
+    (unchanged (a .table .now) (a .delays .now) (a .t) (a .horizon) (a .values .now) (a .last .now) (keptIn (a .store .now) (a .count)) (a .k) (v .comes-to .ensures .0 (a .delays .now)) (c .if1 .taken), omega arith, v .before .before .before .pre .7, v .before .before .before .pre .6)
 
 element-write-last : tie.Need-element-write-last
 element-write-last c = search needs
@@ -42,14 +42,14 @@ returns-2 c =
     let b = c .before .before .before in
     let v = b .before .before .before .before in
     let a = v .before .before .before .args in
-    (λ n h. rw (c .put .ensures .0) (below-horizon (a .table .now) (a .delays .now) (a .t) (a .horizon) (a .values .now) (a .last .now) (take (a .count) (a .store .now)) (a .k) (v .comes-to .ensures .0 (a .delays .now)) (b .before .before .if1 .left) (b .wide16 .ensures .0) (c .before .before .if2 .taken) n h), omega arith, c .put .ensures .2, levels-set (v .before .before .before .pre .6) _ _ (v .comes-to .ensures .1))
+    (λ n h. rw (c .put .ensures .0) (below-horizon (a .table .now) (a .delays .now) (a .t) (a .horizon) (a .values .now) (a .last .now) (keptIn (a .store .now) (a .count)) (a .k) (v .comes-to .ensures .0 (a .delays .now)) (b .before .before .if1 .left) (b .wide16 .ensures .0) (c .before .before .if2 .taken) n h), omega arith, c .put .ensures .2, levels-set (v .before .before .before .pre .6) _ _ (v .comes-to .ensures .1))
 
 returns-3 : tie.Need-returns-3
 returns-3 c =
     let b = c .before in
     let v = b .before .before .before .before in
     let a = v .before .before .before .args in
-    (past-horizon (a .table .now) (a .delays .now) (a .t) (a .horizon) (a .values .now) (a .last .now) (take (a .count) (a .store .now)) (a .k) (v .comes-to .ensures .0 (a .delays .now)) (b .before .before .if1 .left) (b .wide16 .ensures .0) (c .if2 .left), omega arith, v .before .before .before .pre .7, levels-set (v .before .before .before .pre .6) _ _ (v .comes-to .ensures .1))
+    (past-horizon (a .table .now) (a .delays .now) (a .t) (a .horizon) (a .values .now) (a .last .now) (keptIn (a .store .now) (a .count)) (a .k) (v .comes-to .ensures .0 (a .delays .now)) (b .before .before .if1 .left) (b .wide16 .ensures .0) (c .if2 .left), omega arith, v .before .before .before .pre .7, levels-set (v .before .before .before .pre .6) _ _ (v .comes-to .ensures .1))
 
 pub schedule-one-spec : {M : Type 1} → statement M
 schedule-one-spec =

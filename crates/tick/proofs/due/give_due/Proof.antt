@@ -1,7 +1,6 @@
 -- `tick::due::give_due` meets its contract. The loop's invariant: the changes taken are given to the values. Assumes nothing.
 use borrow.Author.Needs.{needs}
-use Prim.Native.Nat.{_-_}
-use native.Mathlib.Omega.{arith}
+use Rattle.pending.specs.Taking.{toGo}
 use Rattle.tick.proofs.Given.{Given, none-given, one-taken, one-given, all-given}
 use Rattle.tick.proofs.due.give_due.Statement.{statement}
 use Rattle.tick.proofs.due.give_due.Tie as tie
@@ -10,10 +9,15 @@ abbrev Inv-loop : tie.InvT-loop
 Inv-loop table t store₀ count values₀ scan₀ store values scan = Given table t store₀ count values₀ store values scan
 
 abbrev μ-loop : tie.MeasureT-loop
-μ-loop table t store₀ count values₀ scan₀ store values scan = count - scan .at
+μ-loop table t store₀ count values₀ scan₀ store values scan = toGo count scan
+
+from-start-requires : tie.Need-from-start-requires Inv-loop μ-loop
+from-start-requires c κs = search needs
 
 loop-holds : tie.Need-loop-holds Inv-loop μ-loop
-loop-holds c = none-given (c .args .table .now) (c .args .t) (c .args .store .now) (c .args .count) (c .pre .0) (c .pre .1) (c .pre .2)
+loop-holds c =
+    let b = c .before in
+    rw (c .from-start .ensures) (none-given (b .args .table .now) (b .args .t) (b .args .store .now) (b .args .count) (b .pre .0) (b .pre .1) (b .pre .2))
 
 next-due-requires : tie.Need-next-due-requires Inv-loop μ-loop
 next-due-requires c κs = c .before .loop .inv .taking .within
@@ -25,13 +29,13 @@ give-requires : tie.Need-give-requires Inv-loop μ-loop
 give-requires c κs =
     let l = c .before .before .before .before .before .before in
     let o = one-taken (l .loop .inv) _ (c .before .before .before .before .next-due .ensures) (c .before .before .due .given .1) in
-    (o .packable .position, o .packable .value, l .loop .inv .levels)
+    (o .position, o .value, l .loop .inv .levels)
 
 loop-less : tie.Need-loop-less Inv-loop μ-loop
 loop-less c =
     let l = c .before .before .before .before .before .before .before in
     let o = one-taken (l .loop .inv) _ (c .before .before .before .before .before .next-due .ensures) (c .before .before .before .due .given .1) in
-    omega (arith, o .onward, o .taking .within .at)
+    o .nearer
 
 loop-again : tie.Need-loop-again Inv-loop μ-loop
 loop-again c =
@@ -50,6 +54,7 @@ give-due-spec =
     (tie.spec
     Inv-loop
     μ-loop
+    from-start-requires
     loop-holds
     next-due-requires
     enum-known-due
