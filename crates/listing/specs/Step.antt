@@ -3,7 +3,7 @@ use mathlib.Core.List.{List}
 use mathlib.Core.Path.{_≡_}
 use Prim.Native.Nat.{ℕ, _+_, _<_, _≤_}
 use lib.ListN.{length}
-use Rattle.sheet.specs.Limits.{pendingLimit}
+use Rattle.sheet.specs.Limits.{pendingLimit, mostNodes}
 use Rattle.network.specs.Buffer.{room}
 use Rattle.model.specs.Fresh.{fresh, showAll}
 use Rattle.listing.specs.Record.{written}
@@ -15,7 +15,7 @@ pub record RecordsWritten (listing : List ℕ) (n t : ℕ) (watched values shown
   pub counted : count ≡ n + length (fresh t values shown watched)
   pub bytes : listing′ ≡ written n (fresh t values shown watched) listing
   pub now-shown : shown′ ≡ showAll values shown watched
-  pub shown-size : length shown′ ≡ 256
+  pub shown-size : length shown′ ≡ mostNodes
 
 -- 19: no room, and nothing written or shown
 pub record NoRoom (listing : List ℕ) (n t : ℕ) (watched values shown listing′ shown′ : List ℕ) : Type 0 where

@@ -1,8 +1,11 @@
 // The records of a tick: counted first, and then written.
 use crate::record::write_record;
+use sheet::NODES;
+use sheet::WATCHED;
 ghost use mathlib.Core.Path.{_≡_};
 ghost use Prim.Native.Nat.{ℕ, _+_, _*_, _<_, _≤_};
 ghost use lib.ListN.{length, take};
+ghost use Rattle.sheet.specs.Limits.{mostNodes, mostWatched};
 ghost use Rattle.network.specs.Buffer.{recordSize};
 ghost use Rattle.model.specs.Fresh.{fresh, showAll};
 ghost use Rattle.listing.specs.Record.{written};
@@ -16,12 +19,12 @@ fn wide(x: u8) -> usize
 
 // How many of the first n watched nodes have a value that is not the one shown last.
 pub(crate) fn count_fresh(
-    watched: &[u8; 256],
+    watched: &[u8; WATCHED],
     n: usize,
-    values: &[u8; 256],
-    shown: &[u8; 256],
+    values: &[u8; NODES],
+    shown: &[u8; NODES],
 ) -> usize
-    requires { ⌜ (n ≤ 256) × (length (now watched) ≡ 256) ⌝ }
+    requires { ⌜ (n ≤ mostWatched) × (length (now watched) ≡ mostWatched) ⌝ }
     ensures { λ r. ⌜ ((t : ℕ) → r ≡ length (fresh t (now (values .entry)) (now (shown .entry)) (take n (now (watched .entry))))) ⌝ }
 {
     let mut c: usize = 0;
@@ -41,12 +44,12 @@ pub(crate) fn write_fresh(
     listing: &mut [u8],
     at: usize,
     t: u32,
-    watched: &[u8; 256],
+    watched: &[u8; WATCHED],
     n: usize,
-    values: &[u8; 256],
-    shown: &[u8; 256],
+    values: &[u8; NODES],
+    shown: &[u8; NODES],
 ) -> usize
-    requires { ⌜ (n ≤ 256) × (length (now watched) ≡ 256) × (recordSize * (at + length (fresh t (now values) (now shown) (take n (now watched)))) ≤ length (now listing)) ⌝ }
+    requires { ⌜ (n ≤ mostWatched) × (length (now watched) ≡ mostWatched) × (recordSize * (at + length (fresh t (now values) (now shown) (take n (now watched)))) ≤ length (now listing)) ⌝ }
     ensures { λ r. ⌜ (r ≡ at + length (fresh t (now (values .entry)) (now (shown .entry)) (take n (now (watched .entry))))) × (now (listing .exit) ≡ written at (fresh t (now (values .entry)) (now (shown .entry)) (take n (now (watched .entry)))) (now (listing .entry))) ⌝ }
 {
     let mut c = at;
@@ -64,9 +67,14 @@ pub(crate) fn write_fresh(
 }
 
 // The values of the first n watched nodes are now shown.
-pub(crate) fn show_all(watched: &[u8; 256], n: usize, values: &[u8; 256], shown: &mut [u8; 256])
-    requires { ⌜ (n ≤ 256) × (length (now watched) ≡ 256) × (length (now shown) ≡ 256) ⌝ }
-    ensures { λ _. ⌜ (now (shown .exit) ≡ showAll (now (values .entry)) (now (shown .entry)) (take n (now (watched .entry)))) × (length (now (shown .exit)) ≡ 256) ⌝ }
+pub(crate) fn show_all(
+    watched: &[u8; WATCHED],
+    n: usize,
+    values: &[u8; NODES],
+    shown: &mut [u8; NODES],
+)
+    requires { ⌜ (n ≤ mostWatched) × (length (now watched) ≡ mostWatched) × (length (now shown) ≡ mostNodes) ⌝ }
+    ensures { λ _. ⌜ (now (shown .exit) ≡ showAll (now (values .entry)) (now (shown .entry)) (take n (now (watched .entry)))) × (length (now (shown .exit)) ≡ mostNodes) ⌝ }
 {
     let mut k: usize = 0;
     while k < n {

@@ -8,10 +8,13 @@ use fresh::write_fresh;
 pub use record::Listed;
 use record::RECORD_SIZE;
 pub use record::record_at;
+use sheet::NODES;
 use sheet::PENDING_LIMIT;
+use sheet::WATCHED;
 ghost use mathlib.Core.Path.{_≡_};
 ghost use Prim.Native.Nat.{_+_, _*_, _≤_};
 ghost use lib.ListN.{length, take};
+ghost use Rattle.sheet.specs.Limits.{mostNodes, mostWatched};
 ghost use Rattle.network.specs.Buffer.{recordSize};
 ghost use Rattle.model.specs.Fresh.{fresh};
 ghost use Rattle.listing.specs.Step.{StepOf, RecordsWritten};
@@ -32,13 +35,13 @@ fn write(
     listing: &mut [u8],
     n: usize,
     t: u32,
-    watched: &[u8; 256],
+    watched: &[u8; WATCHED],
     count: usize,
-    values: &[u8; 256],
-    shown: &mut [u8; 256],
+    values: &[u8; NODES],
+    shown: &mut [u8; NODES],
     records: usize,
 ) -> usize
-    requires { ⌜ (count ≤ 256) × (length (now watched) ≡ 256) × (length (now shown) ≡ 256) × (records ≡ length (fresh t (now values) (now shown) (take count (now watched)))) × (recordSize * (n + records) ≤ length (now listing)) ⌝ }
+    requires { ⌜ (count ≤ mostWatched) × (length (now watched) ≡ mostWatched) × (length (now shown) ≡ mostNodes) × (records ≡ length (fresh t (now values) (now shown) (take count (now watched)))) × (recordSize * (n + records) ≤ length (now listing)) ⌝ }
     ensures { λ r. ⌜ RecordsWritten (now (listing .entry)) n t (take count (now (watched .entry))) (now (values .entry)) (now (shown .entry)) r (now (listing .exit)) (now (shown .exit)) ⌝ }
 {
     if records == 0 {
@@ -54,13 +57,13 @@ pub fn list(
     listing: &mut [u8],
     n: usize,
     t: u32,
-    watched: &[u8; 256],
+    watched: &[u8; WATCHED],
     count: usize,
-    values: &[u8; 256],
-    shown: &mut [u8; 256],
+    values: &[u8; NODES],
+    shown: &mut [u8; NODES],
     pending: usize,
 ) -> Step
-    requires { ⌜ (count ≤ 256) × (length (now watched) ≡ 256) × (length (now shown) ≡ 256) ⌝ }
+    requires { ⌜ (count ≤ mostWatched) × (length (now watched) ≡ mostWatched) × (length (now shown) ≡ mostNodes) ⌝ }
     ensures { λ r. ⌜ StepOf (now (listing .entry)) n t (take count (now (watched .entry))) (now (values .entry)) (now (shown .entry)) pending r (now (listing .exit)) (now (shown .exit)) ⌝ }
 {
     let records = count_fresh(watched, count, values, &*shown);

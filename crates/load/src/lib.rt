@@ -1,30 +1,34 @@
 // The arrays of a run, filled once before tick 0 from what a sheet holds: the ticks work on lent bytes and numbers.
 use level::Level;
+use sheet::EVENTS;
 use sheet::Event;
 use sheet::INPUT;
+use sheet::MODULES;
 use sheet::Module;
+use sheet::NODES;
+use tick::TABLE;
 use tick::load_event;
 use tick::load_module;
 ghost use mathlib.Core.Path.{_≡_};
 ghost use Prim.Native.Nat.{ℕ, _<_, _≤_};
 ghost use lib.ListN.{length, getD, take};
-ghost use Rattle.sheet.specs.Limits.{inputByte};
+ghost use Rattle.sheet.specs.Limits.{mostNodes, inputByte, mostModules, mostEvents};
 ghost use Rattle.sheet.specs.Sheet.{Sheet};
 ghost use Rattle.model.specs.State.{delayedBelow};
 ghost use Rattle.model.specs.Passes.{moduleIn};
-ghost use Rattle.tick.specs.Tables.{modulesIn, driveIn};
+ghost use Rattle.tick.specs.Tables.{tableSize, modulesIn, driveIn};
 ghost use Rattle.tick.specs.Rest.{Levels};
 ghost use Rattle.load.specs.First.{firstOf};
 
 // Puts the first n records into the tables.
 pub fn load_modules(
-    records: [Module; 256],
+    records: [Module; MODULES],
     n: usize,
-    table: &mut [u8; 2048],
-    delays: &mut [u16; 256],
+    table: &mut [u8; TABLE],
+    delays: &mut [u16; MODULES],
 )
-    requires { ⌜ (n ≤ 256) × (length (now table) ≡ 2048) × (length (now delays) ≡ 256) ⌝ }
-    ensures { λ _. ⌜ (modulesIn (now (table .exit)) (now (delays .exit)) n ≡ take n records) × (length (now (table .exit)) ≡ 2048) × (length (now (delays .exit)) ≡ 256) ⌝ }
+    requires { ⌜ (n ≤ mostModules) × (length (now table) ≡ tableSize) × (length (now delays) ≡ mostModules) ⌝ }
+    ensures { λ _. ⌜ (modulesIn (now (table .exit)) (now (delays .exit)) n ≡ take n records) × (length (now (table .exit)) ≡ tableSize) × (length (now (delays .exit)) ≡ mostModules) ⌝ }
 {
     let mut k: usize = 0;
     while k < n {
@@ -35,14 +39,14 @@ pub fn load_modules(
 
 // Puts the first n events into the drive's arrays.
 pub fn load_drive(
-    drive: [Event; 1024],
+    drive: [Event; EVENTS],
     n: usize,
-    ticks: &mut [u32; 1024],
-    nodes: &mut [u8; 1024],
-    levels: &mut [u8; 1024],
+    ticks: &mut [u32; EVENTS],
+    nodes: &mut [u8; EVENTS],
+    levels: &mut [u8; EVENTS],
 )
-    requires { ⌜ (n ≤ 1024) × (length (now ticks) ≡ 1024) × (length (now nodes) ≡ 1024) × (length (now levels) ≡ 1024) ⌝ }
-    ensures { λ _. ⌜ (driveIn (now (ticks .exit)) (now (nodes .exit)) (now (levels .exit)) n ≡ take n drive) × (length (now (ticks .exit)) ≡ 1024) × (length (now (nodes .exit)) ≡ 1024) × (length (now (levels .exit)) ≡ 1024) ⌝ }
+    requires { ⌜ (n ≤ mostEvents) × (length (now ticks) ≡ mostEvents) × (length (now nodes) ≡ mostEvents) × (length (now levels) ≡ mostEvents) ⌝ }
+    ensures { λ _. ⌜ (driveIn (now (ticks .exit)) (now (nodes .exit)) (now (levels .exit)) n ≡ take n drive) × (length (now (ticks .exit)) ≡ mostEvents) × (length (now (nodes .exit)) ≡ mostEvents) × (length (now (levels .exit)) ≡ mostEvents) ⌝ }
 {
     let mut e: usize = 0;
     while e < n {
@@ -52,8 +56,8 @@ pub fn load_drive(
 }
 
 // How many of the first n modules are delayed.
-pub fn count_delayed(modules: [Module; 256], n: usize) -> usize
-    requires { ⌜ n ≤ 256 ⌝ }
+pub fn count_delayed(modules: [Module; MODULES], n: usize) -> usize
+    requires { ⌜ n ≤ mostModules ⌝ }
     ensures { λ r. ⌜ ((S : Sheet) → S .modules ≡ take n modules → r ≡ delayedBelow S n) × (r ≤ n) ⌝ }
 {
     let mut c: usize = 0;
@@ -76,8 +80,8 @@ fn first_value(b: u8) -> u8
 }
 
 // Puts the first values of the nodes into the values.
-pub fn load_values(nodes: [u8; 256], n: usize, values: &mut [u8; 256])
-    requires { ⌜ (n ≤ 256) × ((v : ℕ) → v < n → getD nodes v 0 ≤ inputByte) × Levels (now values) ⌝ }
+pub fn load_values(nodes: [u8; NODES], n: usize, values: &mut [u8; NODES])
+    requires { ⌜ (n ≤ mostNodes) × ((v : ℕ) → v < n → getD nodes v 0 ≤ inputByte) × Levels (now values) ⌝ }
     ensures { λ _. ⌜ ((v : ℕ) → v < n → getD (now (values .exit)) v 0 ≡ firstOf (getD nodes v 0)) × Levels (now (values .exit)) ⌝ }
 {
     let mut v: usize = 0;
@@ -95,8 +99,13 @@ fn wide(x: u8) -> usize
 }
 
 // What the first n modules came to last is the value of their outputs.
-pub fn load_last(records: [Module; 256], n: usize, values: &[u8; 256], last: &mut [u8; 256])
-    requires { ⌜ (n ≤ 256) × Levels (now values) × Levels (now last) ⌝ }
+pub fn load_last(
+    records: [Module; MODULES],
+    n: usize,
+    values: &[u8; NODES],
+    last: &mut [u8; MODULES],
+)
+    requires { ⌜ (n ≤ mostModules) × Levels (now values) × Levels (now last) ⌝ }
     ensures { λ _. ⌜ ((k : ℕ) → k < n → getD (now (last .exit)) k 0 ≡ getD (now (values .entry)) (moduleIn records k .output) 0) × Levels (now (last .exit)) ⌝ }
 {
     let mut k: usize = 0;

@@ -4,6 +4,7 @@ use lib.ListN.{length, getD}
 use mathlib.Core.List.{List, [], List·Memᴰ}
 use mathlib.Core.Path.{_≡_}
 use Prim.Native.Nat.{ℕ, zero, suc, _+_, _<_, _≤_}
+use Rattle.sheet.specs.Limits.{mostNodes, mostModules}
 use Rattle.sheet.specs.declared.Module.{Module}
 use Rattle.sheet.specs.Sheet.{Sheet, nodeCount, nodeByte, moduleCount, moduleOf, eventCount, eventOf, watchedCount, watchedNode}
 use Rattle.sheet.specs.Wiring.{moduleRule}
@@ -48,13 +49,13 @@ pub record Owing (S : Sheet) (c : Cells) (horizon t : ℕ) (held : List Change) 
   pub once : (i j : ℕ) → i < j → j < length held → (d : Change) → getD held i d ≡ getD held j d → ⊥
 
 pub record Standing (store : Store) (S : Sheet) (c : Cells) (horizon t : ℕ) (st : State store) : Type 0 where
-  pub values-size : length (st .values) ≡ 256
+  pub values-size : length (st .values) ≡ mostNodes
   pub levels : (v : ℕ) → getD (st .values) v 0 < 4
   pub values : (v : ℕ) → v < nodeCount S → getD (st .values) v 0 ≡ before (λ u. c u v) (firstValue S v) t
-  pub last-size : length (st .last) ≡ 256
+  pub last-size : length (st .last) ≡ mostModules
   pub last-levels : (k : ℕ) → getD (st .last) k 0 < 4
   pub last : (k : ℕ) → k < moduleCount S → getD (st .last) k 0 ≡ before (aheadOf S c k) (nodeByte S (placed S k .output)) t
-  pub shown-size : length (st .shown) ≡ 256
+  pub shown-size : length (st .shown) ≡ mostNodes
   pub shown : (k : ℕ) → k < watchedCount S → getD (st .shown) (watchedNode S k) 0 ≡ before (λ u. c u (watchedNode S k)) notShown t
   -- the store holds exactly the owed changes, each once
   pub held : List Change

@@ -3,6 +3,7 @@ use mathlib.Core.List.{List, [], _++_}
 use mathlib.Core.Path.{_≡_}
 use Prim.Native.Nat.{ℕ, zero, suc, _<_}
 use lib.ListN.{length, getD}
+use Rattle.sheet.specs.Limits.{mostNodes, mostModules}
 use Rattle.sheet.specs.Sheet.{Sheet, nodeCount, nodeByte, moduleCount, outputOf}
 use Rattle.sheet.specs.WorkingOrder.{workingOrder}
 use Rattle.network.specs.Listing.{Record}
@@ -16,14 +17,14 @@ orderedAt S k = getD (workingOrder S) k 0
 
 -- before tick 0 nodes have their first values, modules have come to their outputs' initial values, and nothing is shown or pending
 pub record Begun (store : Store) (S : Sheet) (st : State store) : Type 0 where
-  pub values-size : length (st .values) ≡ 256
+  pub values-size : length (st .values) ≡ mostNodes
   pub values : (v : ℕ) → v < nodeCount S → getD (st .values) v 0 ≡ firstValue S v
   pub levels : (v : ℕ) → getD (st .values) v 0 < 4
-  pub last-size : length (st .last) ≡ 256
+  pub last-size : length (st .last) ≡ mostModules
   pub last : (k : ℕ) → k < moduleCount S → getD (st .last) k 0 ≡ nodeByte S (outputOf S (orderedAt S k))
   pub last-levels : (k : ℕ) → getD (st .last) k 0 < 4
-  pub shown-size : length (st .shown) ≡ 256
-  pub shown : (v : ℕ) → v < 256 → getD (st .shown) v 0 ≡ notShown
+  pub shown-size : length (st .shown) ≡ mostNodes
+  pub shown : (v : ℕ) → v < mostNodes → getD (st .shown) v 0 ≡ notShown
   pub pending : st .pending ≡ store .nothing
 
 abbrev pub tickOf : (store : Store) → Sheet → ℕ → ℕ → State store → Ticked store

@@ -1,5 +1,5 @@
 -- Zero-delay links between nodes, and a matrix that says of every two nodes whether one leads to the other.
--- Nodes are bytes: it has 256 rows and columns.
+-- It has a row and a column for every node that there may be.
 use mathlib.Core.Bool.{Bool, false, _||_}
 use mathlib.Core.List.{List, [], _∷_}
 use mathlib.Core.Path.{_≡_}
@@ -21,13 +21,17 @@ pub record Network (records : List Module) (n count : ℕ) (S : Sheet) : Type 0 
 abbrev pub linksBelow : List Module → ℕ → ℕ → ℕ → Bool
 linksBelow modules n u v = anyBelow n (λ m. links (getD modules m noModule) u v)
 
+-- the entries of a matrix
+abbrev pub matrixSize : ℕ
+matrixSize = mostNodes * mostNodes
+
 -- what a matrix says of two nodes
 abbrev pub entry : List Bool → ℕ → ℕ → Bool
-entry matrix u v = getD matrix (256 * u + v) false
+entry matrix u v = getD matrix (mostNodes * u + v) false
 
 -- of every two bytes the matrix says what the test says
 abbrev pub Holds : List Bool → (ℕ → ℕ → Bool) → Type 0
-Holds matrix test = (u v : ℕ) → u < 256 → v < 256 → entry matrix u v ≡ test u v
+Holds matrix test = (u v : ℕ) → u < mostNodes → v < mostNodes → entry matrix u v ≡ test u v
 
 -- of every two bytes it says what it said before, or what the test says
 pub record Adds (before : List Bool) (test : ℕ → ℕ → Bool) (after : List Bool) : Type 0 where

@@ -9,15 +9,17 @@ use read_nodes::count_refusal;
 use sheet::Answer;
 use sheet::COUNT_SIZE;
 use sheet::EVENT_SIZE;
+use sheet::EVENTS;
 use sheet::Edition;
 use sheet::Event;
 use sheet::MOST_EVENTS;
+use sheet::NODES;
 ghost use mathlib.Core.Path.{_≡_};
 ghost use Prim.Native.Nat.{_≤_};
 ghost use lib.ListN.{replicate};
 ghost use Rattle.sheet.specs.Flags.{Flags};
 ghost use Rattle.sheet.specs.Layout.{nodesCounted, drivePlace, eventsCounted, eventAt, sheetOf};
-ghost use Rattle.sheet.specs.Limits.{mostEvents};
+ghost use Rattle.sheet.specs.Limits.{mostEvents, mostNodes};
 ghost use Rattle.sheet.specs.Outcome.{outcomeOf};
 ghost use Rattle.sheet.specs.Sections.{rowsOf, SectionRead};
 ghost use Rattle.sheet.specs.Sheet.{noEvent};
@@ -27,7 +29,7 @@ ghost use Rattle.sheet.specs.Wiring.{isDriven};
 pub struct DriveRead {
     pub answer: Answer,
     pub count: u16,
-    pub drive: [Event; 1024],
+    pub drive: [Event; EVENTS],
 }
 
 // An answer, and no events.
@@ -42,7 +44,7 @@ fn no_drive(answer: Answer) -> DriveRead
     DriveRead {
         answer,
         count: 0,
-        drive: [none; 1024],
+        drive: [none; EVENTS],
     }
 }
 
@@ -52,9 +54,9 @@ pub fn drive_section(
     s: &[u8],
     place: u32,
     nodes: u16,
-    driven: &[bool; 256],
+    driven: &[bool; NODES],
 ) -> DriveRead
-    requires { ⌜ (place ≡ drivePlace e (now s)) × (place ≤ 100000) × (nodes ≡ nodesCounted (now s)) × (nodes ≤ 256) × Flags (now driven) (isDriven (sheetOf e (now s))) ⌝ }
+    requires { ⌜ (place ≡ drivePlace e (now s)) × (place ≤ 100000) × (nodes ≡ nodesCounted (now s)) × (nodes ≤ mostNodes) × Flags (now driven) (isDriven (sheetOf e (now s))) ⌝ }
     ensures { λ r. ⌜ SectionRead (rowsOf e (now (s .entry)) 2) mostEvents noEvent (eventsCounted e (now (s .entry))) (eventAt e (now (s .entry))) (outcomeOf (r .answer)) (r .count) (r .drive) ⌝ }
 {
     let checked = count_refusal(s, place, 0, MOST_EVENTS);

@@ -3,6 +3,7 @@ use sheet::Event;
 use sheet::EventRead;
 use sheet::LAST_TICK;
 use sheet::LAST_VALUE;
+use sheet::NODES;
 ghost use mathlib.Core.Bool.{Bool, _&&_, not};
 ghost use mathlib.Core.Path.{_≡_};
 ghost use Prim.Native.Nat.{ℕ, _+_};
@@ -25,7 +26,7 @@ pub(crate) fn order_key(event: Event) -> u64
 }
 
 // Whether a byte is a node that no module drives.
-fn is_input(v: u8, nodes: u16, driven: &[bool; 256]) -> bool
+fn is_input(v: u8, nodes: u16, driven: &[bool; NODES]) -> bool
     ensures { λ r. ⌜ ((test : ℕ → Bool) → Flags (now (driven .entry)) test → r ≡ (ltb v nodes && not (test v))) ⌝ }
 {
     if nodes <= v as u16 {
@@ -39,7 +40,7 @@ pub(crate) fn event_checked(
     s: &[u8],
     at: u32,
     nodes: u16,
-    driven: &[bool; 256],
+    driven: &[bool; NODES],
     last: u64,
 ) -> EventChecked
     ensures { λ r. ⌜ EventTold (now (s .entry)) at nodes (now (driven .entry)) last r ⌝ }

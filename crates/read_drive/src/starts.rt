@@ -1,23 +1,25 @@
 // The inputs' first events. A node has begun if a module drives it or it has an event at tick 0.
 use sheet::Answer;
 use sheet::Event;
+use sheet::NODES;
 ghost use mathlib.Core.Path.{_≡_};
 ghost use Prim.Native.Nat.{_≤_};
 ghost use lib.ListN.{length};
+ghost use Rattle.sheet.specs.Limits.{mostNodes};
 ghost use Rattle.sheet.specs.Enumerate.{each};
 ghost use Rattle.sheet.specs.Outcome.{outcomeOf};
 ghost use Rattle.sheet.specs.Refusal.{first};
 ghost use Rattle.read_drive.specs.Begun.{begunBy, unbegunRows};
 
 // The nodes that have begun before the first event: those that modules drive. A copy by value is known to have 256 flags.
-pub(crate) fn begun_before(driven: [bool; 256]) -> [bool; 256]
-    ensures { λ r. ⌜ (r ≡ driven) × (length r ≡ 256) ⌝ }
+pub(crate) fn begun_before(driven: [bool; NODES]) -> [bool; NODES]
+    ensures { λ r. ⌜ (r ≡ driven) × (length r ≡ mostNodes) ⌝ }
 {
     driven
 }
 
 // Flags the event's node if its tick is 0.
-pub(crate) fn mark(event: Event, begun: &mut [bool; 256])
+pub(crate) fn mark(event: Event, begun: &mut [bool; NODES])
     ensures { λ _. ⌜ now (begun .exit) ≡ begunBy event (now (begun .entry)) ⌝ }
 {
     if event.tick == 0 {
@@ -27,8 +29,8 @@ pub(crate) fn mark(event: Event, begun: &mut [bool; 256])
 }
 
 // The first refusal met at a node that has not begun.
-pub(crate) fn first_events(nodes: u16, begun: &[bool; 256]) -> Answer
-    requires { ⌜ nodes ≤ 256 ⌝ }
+pub(crate) fn first_events(nodes: u16, begun: &[bool; NODES]) -> Answer
+    requires { ⌜ nodes ≤ mostNodes ⌝ }
     ensures { λ r. ⌜ outcomeOf r ≡ first (each nodes (unbegunRows (now (begun .entry)))) ⌝ }
 {
     let mut v: u16 = 0;

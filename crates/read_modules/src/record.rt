@@ -3,6 +3,7 @@ use level::MEMORY;
 use sheet::Answer;
 use sheet::LONGEST_DELAY;
 use sheet::Module;
+use sheet::NODES;
 ghost use mathlib.Core.Path.{_≡_};
 ghost use lib.Dec.{leb, ltb};
 ghost use lib.ListN.{getD};
@@ -52,7 +53,7 @@ pub(crate) fn record_refusal(
     at: u32,
     greatest: u8,
     nodes: u16,
-    driven: &[bool; 256],
+    driven: &[bool; NODES],
 ) -> Answer
     ensures { λ r. ⌜ outcomeOf r ≡ first (recordRows greatest nodes (λ v. getD (now (driven .entry)) v false) at m) ⌝ }
 {

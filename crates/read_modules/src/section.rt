@@ -5,9 +5,11 @@ use read_nodes::count_refusal;
 use sheet::Answer;
 use sheet::COUNT_SIZE;
 use sheet::Edition;
+use sheet::MODULES;
 use sheet::MOST_MODULES;
 use sheet::Module;
 use sheet::ModuleRead;
+use sheet::NODES;
 ghost use mathlib.Core.Path.{_≡_};
 ghost use Prim.Native.Nat.{_≤_};
 ghost use Rattle.sheet.specs.Contents.{filled};
@@ -22,9 +24,9 @@ ghost use Rattle.read_modules.specs.Read.{noneRead, ModulesKnown};
 pub struct ModulesRead {
     pub answer: Answer,
     pub count: u16,
-    pub modules: [Module; 256],
+    pub modules: [Module; MODULES],
     // Whether a module drives a node.
-    pub driven: [bool; 256],
+    pub driven: [bool; NODES],
     // The place after the section.
     pub end: u32,
 }
@@ -44,15 +46,15 @@ fn none_read(answer: Answer) -> ModulesRead
     ModulesRead {
         answer,
         count: 0,
-        modules: [none; 256],
-        driven: [false; 256],
+        modules: [none; MODULES],
+        driven: [false; NODES],
         end: 0,
     }
 }
 
 // Reads the section, which stands at a place: its count, and then its records.
 fn module_records(e: Edition, s: &[u8], place: u32, nodes: u16) -> ModulesRead
-    requires { ⌜ (place ≡ modulesPlace (now s)) × (nodes ≡ nodesCounted (now s)) × (nodes ≤ 256) ⌝ }
+    requires { ⌜ (place ≡ modulesPlace (now s)) × (nodes ≡ nodesCounted (now s)) × (nodes ≤ mostNodes) ⌝ }
     ensures { λ r. ⌜ ModulesKnown e (now (s .entry)) (modulesSection e (now (s .entry))) r ⌝ }
 {
     let checked = count_refusal(s, place, 0, MOST_MODULES);
@@ -94,9 +96,9 @@ pub fn modules_section(
     s: &[u8],
     place: u32,
     count: u16,
-    nodes: &[u8; 256],
+    nodes: &[u8; NODES],
 ) -> ModulesRead
-    requires { ⌜ (place ≡ modulesPlace (now s)) × (count ≡ nodesCounted (now s)) × (count ≤ 256) × (now nodes ≡ filled mostNodes 0 (listed (nodesCounted (now s)) (nodeAt (now s)))) ⌝ }
+    requires { ⌜ (place ≡ modulesPlace (now s)) × (count ≡ nodesCounted (now s)) × (count ≤ mostNodes) × (now nodes ≡ filled mostNodes 0 (listed (nodesCounted (now s)) (nodeAt (now s)))) ⌝ }
     ensures { λ r. ⌜ ModulesKnown e (now (s .entry)) (rowsOf e (now (s .entry)) 1) r ⌝ }
 {
     let read = module_records(e, s, place, count);

@@ -1,10 +1,12 @@
 // After the modules, each node's byte: an initial value for a driven node, and 4 for an input.
 use sheet::Answer;
 use sheet::INPUT;
+use sheet::NODES;
 ghost use mathlib.Core.Bool.{false};
 ghost use mathlib.Core.Path.{_≡_};
 ghost use Prim.Native.Nat.{_≤_};
 ghost use lib.ListN.{getD};
+ghost use Rattle.sheet.specs.Limits.{mostNodes};
 ghost use Rattle.sheet.specs.Enumerate.{each};
 ghost use Rattle.sheet.specs.Outcome.{outcomeOf};
 ghost use Rattle.sheet.specs.Refusal.{first};
@@ -27,8 +29,8 @@ fn start_refusal(v: u16, byte: u8, driven: bool) -> Answer
 }
 
 // The first refusal met at a node's byte.
-pub(crate) fn start_records(nodes: &[u8; 256], count: u16, driven: &[bool; 256]) -> Answer
-    requires { ⌜ count ≤ 256 ⌝ }
+pub(crate) fn start_records(nodes: &[u8; NODES], count: u16, driven: &[bool; NODES]) -> Answer
+    requires { ⌜ count ≤ mostNodes ⌝ }
     ensures { λ r. ⌜ outcomeOf r ≡ first (each count (λ v. byteRows v (getD (now (nodes .entry)) v 0) (getD (now (driven .entry)) v false))) ⌝ }
 {
     let mut v: u16 = 0;

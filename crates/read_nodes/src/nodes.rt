@@ -5,6 +5,7 @@ use sheet::COUNT_SIZE;
 use sheet::INPUT;
 use sheet::LEAST_NODES;
 use sheet::MOST_NODES;
+use sheet::NODES;
 use sheet::NodeRead;
 ghost use mathlib.Core.Path.{_≡_};
 ghost use lib.ListN.{replicate};
@@ -25,7 +26,7 @@ pub(crate) enum NodeChecked {
 pub struct NodesRead {
     pub answer: Answer,
     pub count: u16,
-    pub nodes: [u8; 256],
+    pub nodes: [u8; NODES],
 }
 
 // A refusal is met: no nodes.
@@ -35,7 +36,7 @@ fn no_nodes(answer: Answer) -> NodesRead
     NodesRead {
         answer,
         count: 0,
-        nodes: [0; 256],
+        nodes: [0; NODES],
     }
 }
 
@@ -63,7 +64,7 @@ pub fn nodes_section(s: &[u8], place: u32) -> NodesRead
         return no_nodes(a);
     };
     let n = checked.count;
-    let mut nodes = [0; 256];
+    let mut nodes = [0; NODES];
     let mut v: u16 = 0;
     while v < n {
         match node_checked(s, place + COUNT_SIZE + (v as u32)) {

@@ -6,6 +6,7 @@ use sheet::COUNT_SIZE;
 use sheet::Edition;
 use sheet::MOST_WATCHED;
 use sheet::NodeRead;
+use sheet::WATCHED;
 ghost use mathlib.Core.Path.{_≡_};
 ghost use Prim.Native.Nat.{_≤_};
 ghost use lib.ListN.{replicate};
@@ -19,7 +20,7 @@ ghost use Rattle.read_nodes.specs.Told.{WatchedTold};
 pub struct WatchedRead {
     pub answer: Answer,
     pub count: u16,
-    pub watched: [u8; 256],
+    pub watched: [u8; WATCHED],
 }
 
 // A refusal is met: no watched nodes.
@@ -29,7 +30,7 @@ fn no_watched(answer: Answer) -> WatchedRead
     WatchedRead {
         answer,
         count: 0,
-        watched: [0; 256],
+        watched: [0; WATCHED],
     }
 }
 
@@ -61,7 +62,7 @@ pub fn watched_section(e: Edition, s: &[u8], place: u32, nodes: u16) -> WatchedR
     };
     let n = checked.count;
     let start = place + COUNT_SIZE;
-    let mut watched = [0; 256];
+    let mut watched = [0; WATCHED];
     let mut least: u16 = 0;
     let mut k: u16 = 0;
     while k < n {

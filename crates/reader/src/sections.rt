@@ -30,7 +30,7 @@ pub(crate) struct Reading {
     pub answer: Answer,
     pub edition: Edition,
     // Whether a module drives a node.
-    pub driven: [bool; 256],
+    pub driven: [bool; sheet::NODES],
     pub contents: Contents,
 }
 
@@ -58,10 +58,10 @@ pub(crate) fn no_contents() -> Contents
             events: 0,
             watched: 0,
         },
-        nodes: [0; 256],
-        modules: [module; 256],
-        drive: [event; 1024],
-        watched: [0; 256],
+        nodes: [0; sheet::NODES],
+        modules: [module; sheet::MODULES],
+        drive: [event; sheet::EVENTS],
+        watched: [0; sheet::WATCHED],
     }
 }
 
@@ -74,7 +74,7 @@ pub(crate) fn unread(edition: Edition) -> Reading
         at: 0,
         answer: Answer::Ran(0),
         edition,
-        driven: [false; 256],
+        driven: [false; sheet::NODES],
         contents,
     }
 }

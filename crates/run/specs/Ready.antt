@@ -3,7 +3,7 @@ use mathlib.Core.List.{List}
 use mathlib.Core.Path.{_≡_}
 use Prim.Native.Nat.{ℕ, _<_, _≤_}
 use lib.ListN.{length, take}
-use Rattle.sheet.specs.Limits.{greatestHorizon}
+use Rattle.sheet.specs.Limits.{greatestHorizon, mostWatched}
 use Rattle.sheet.specs.Sheet.{Sheet}
 use Rattle.sheet.specs.WorkingOrder.{inWorkingOrder}
 use Rattle.format.specs.Accepted.{Accepted}
@@ -24,7 +24,7 @@ pub record Ready (S : Sheet) (table delays times nodes levels watched : List ℕ
   pub modules : modulesIn table delays (shape .modules) ≡ inWorkingOrder S
   pub delayed : shape .delayed ≡ delayedCount S
   pub drive : driveIn times nodes levels (shape .events) ≡ S .drive
-  pub watched-size : length watched ≡ 256
+  pub watched-size : length watched ≡ mostWatched
   pub watched-there : take count watched ≡ S .watched
-  pub watched-few : count ≤ 256
+  pub watched-few : count ≤ mostWatched
   pub begun : Begun arrangement S st

@@ -9,8 +9,12 @@ use load::load_modules;
 use load::load_values;
 use sheet::Answer;
 use sheet::Contents;
+use sheet::EVENTS;
+use sheet::MODULES;
 use sheet::Module;
+use sheet::NODES;
 use tick::Shape;
+use tick::TABLE;
 ghost use mathlib.Core.Path.{_≡_};
 ghost use Prim.Native.Nat.{_<_, _≤_};
 ghost use lib.ListN.{length, take};
@@ -25,7 +29,7 @@ ghost use Rattle.network.specs.Run.{ranSheet, Leaves};
 pub(crate) fn run_accepted(
     contents: Contents,
     horizon: u32,
-    records: [Module; 256],
+    records: [Module; MODULES],
     listing: &mut [u8],
 ) -> Answer
     requires { ⌜ Accepted (heldSheet contents) × Holds (heldSheet contents) contents × (0 < horizon) × (horizon ≤ greatestHorizon) × (take (contents .counts .modules) records ≡ inWorkingOrder (heldSheet contents)) ⌝ }
@@ -33,12 +37,12 @@ pub(crate) fn run_accepted(
 {
     let counts = contents.counts;
     let modules = counts.modules as usize;
-    let mut table = [0u8; 2048];
-    let mut delays = [0u16; 256];
+    let mut table = [0u8; TABLE];
+    let mut delays = [0u16; MODULES];
     load_modules(records, modules, &mut table, &mut delays);
-    let mut times = [0u32; 1024];
-    let mut nodes = [0u8; 1024];
-    let mut levels = [0u8; 1024];
+    let mut times = [0u32; EVENTS];
+    let mut nodes = [0u8; EVENTS];
+    let mut levels = [0u8; EVENTS];
     let drive = contents.drive;
     load_drive(
         drive,
@@ -47,10 +51,10 @@ pub(crate) fn run_accepted(
         &mut nodes,
         &mut levels,
     );
-    let mut values = [0u8; 256];
+    let mut values = [0u8; NODES];
     let initial = contents.nodes;
     load_values(initial, counts.nodes as usize, &mut values);
-    let mut last = [0u8; 256];
+    let mut last = [0u8; MODULES];
     load_last(records, modules, &values, &mut last);
     let listed = contents.modules;
     let shape = Shape {
@@ -59,7 +63,7 @@ pub(crate) fn run_accepted(
         events: counts.events,
     };
     let watched = contents.watched;
-    let mut shown = [NOT_SHOWN; 256];
+    let mut shown = [NOT_SHOWN; NODES];
     let mut store = pending::empty();
     let gates = Level::tables();
     ticks(

@@ -5,6 +5,7 @@ mod ticks;
 use sheet::Answer;
 use sheet::Edition;
 use sheet::GREATEST_HORIZON;
+use sheet::MODULES;
 ghost use Rattle.sheet.specs.Outcome.{outcomeOf};
 ghost use Rattle.format.specs.Accepted.{Known};
 ghost use Rattle.network.specs.Run.{RunLeaves};
@@ -28,7 +29,7 @@ pub fn run(edition: Edition, bytes: &[u8], horizon: u32, listing: &mut [u8]) -> 
     let contents = read.contents;
     let modules = contents.modules;
     let counts = contents.counts;
-    let mut order = [0u8; 256];
+    let mut order = [0u8; MODULES];
     let b = order::arranged(modules, counts.modules, counts.nodes, &mut order);
     let Answer::Ran(_) = b else {
         return b;

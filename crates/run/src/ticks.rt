@@ -3,8 +3,13 @@ use listing::Step;
 use listing::list;
 use pending::Store;
 use sheet::Answer;
+use sheet::EVENTS;
+use sheet::MODULES;
+use sheet::NODES;
+use sheet::WATCHED;
 use tick::Shape;
 use tick::Standing;
+use tick::TABLE;
 use tick::work;
 ghost use mathlib.Core.Path.{_≡_};
 ghost use lib.ListN.{length};
@@ -20,16 +25,16 @@ pub(crate) fn ticks(
     shape: Shape,
     horizon: u32,
     gates: &[u8],
-    table: &[u8; 2048],
-    delays: &[u16; 256],
-    times: &[u32; 1024],
-    nodes: &[u8; 1024],
-    levels: &[u8; 1024],
-    watched: &[u8; 256],
+    table: &[u8; TABLE],
+    delays: &[u16; MODULES],
+    times: &[u32; EVENTS],
+    nodes: &[u8; EVENTS],
+    levels: &[u8; EVENTS],
+    watched: &[u8; WATCHED],
     count: usize,
-    values: &mut [u8; 256],
-    last: &mut [u8; 256],
-    shown: &mut [u8; 256],
+    values: &mut [u8; NODES],
+    last: &mut [u8; MODULES],
+    shown: &mut [u8; NODES],
     store: &mut Store,
     listing: &mut [u8],
 ) -> Answer

@@ -25,6 +25,15 @@ pub const MOST_EVENTS: u16 = 1024;
 
 pub const MOST_WATCHED: u16 = 256;
 
+// The same as sizes of arrays.
+pub const NODES: usize = MOST_NODES as usize;
+
+pub const MODULES: usize = MOST_MODULES as usize;
+
+pub const EVENTS: usize = MOST_EVENTS as usize;
+
+pub const WATCHED: usize = MOST_WATCHED as usize;
+
 // The byte of a node that is an input, and the greatest value of a cell.
 pub const INPUT: u8 = 4;
 
@@ -206,8 +215,8 @@ pub struct Counts {
 // What a sheet holds: the records of its sections. Past the counts they are zeros.
 pub struct Contents {
     pub counts: Counts,
-    pub nodes: [u8; 256],
-    pub modules: [Module; 256],
-    pub drive: [Event; 1024],
-    pub watched: [u8; 256],
+    pub nodes: [u8; NODES],
+    pub modules: [Module; MODULES],
+    pub drive: [Event; EVENTS],
+    pub watched: [u8; WATCHED],
 }

@@ -6,7 +6,7 @@ use lib.ListN.{length, getD}
 use Rattle.level.specs.Kind.{lastKind}
 use Rattle.sheet.specs.declared.Module.{Module}
 use Rattle.sheet.specs.declared.Event.{Event}
-use Rattle.sheet.specs.Limits.{lastValue}
+use Rattle.sheet.specs.Limits.{mostNodes, lastValue}
 use Rattle.sheet.specs.Refusal.{greatestParameter}
 use Rattle.model.specs.Change.{Change}
 use Rattle.model.specs.Drive.{eventIn}
@@ -25,9 +25,9 @@ KnownIn table n = (k : ℕ) → k < n → Known (tableAt table k 0) (tableAt tab
 abbrev pub AllKnown : List Module → Type 0
 AllKnown modules = (k : ℕ) → k < length modules → Known (moduleIn modules k .kind) (moduleIn modules k .parameter)
 
--- 256 values, 0 to 3
+-- the values of all nodes that there may be, or of as many modules
 pub record Levels (values : List ℕ) : Type 0 where
-  pub size : length values ≡ 256
+  pub size : length values ≡ mostNodes
   pub each : (v : ℕ) → getD values v 0 < 4
 
 pub record Driving (drive : List Event) : Type 0 where

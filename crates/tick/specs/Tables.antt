@@ -6,8 +6,13 @@ use lib.ListN.{getD, set}
 use Rattle.sheet.specs.declared.Module.{Module}
 use Rattle.sheet.specs.declared.Event.{Event}
 use Rattle.sheet.specs.Enumerate.{listed}
+use Rattle.sheet.specs.Limits.{mostModules}
 
--- byte f of the module at position k, which has 8 bytes: kind, parameter, output, first input, second input
+-- the bytes of all modules that there may be, 8 of each
+abbrev pub tableSize : ℕ
+tableSize = 8 * mostModules
+
+-- byte f of the module at position k: kind, parameter, output, first input, second input
 abbrev pub tableAt : List ℕ → ℕ → ℕ → ℕ
 tableAt table k f = getD table (8 * k + f) 0
 

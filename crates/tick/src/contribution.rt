@@ -1,8 +1,11 @@
 // What a module comes to, and where it goes.
+use crate::TABLE;
 use crate::bytes::wide;
 use level::LAST_OF_ONE;
 use level::Level;
 use level::MEMORY;
+use sheet::MODULES;
+use sheet::NODES;
 ghost use mathlib.Core.List.{List, [], _∷_};
 ghost use mathlib.Core.Path.{_≡_};
 ghost use Prim.Native.Nat.{ℕ, _<_};
@@ -10,6 +13,7 @@ ghost use lib.ListN.{take};
 ghost use Rattle.level.specs.Rule.{inputsOf, comesTo};
 ghost use Rattle.level.specs.Kind.{ruleOf};
 ghost use Rattle.level.specs.Table.{tables};
+ghost use Rattle.sheet.specs.Limits.{mostModules};
 ghost use Rattle.model.specs.Passes.{moduleIn, give, comesToNow};
 ghost use Rattle.tick.specs.Tables.{tableAt, modulesIn};
 ghost use Rattle.tick.specs.Rest.{Known, Levels};
@@ -41,12 +45,12 @@ fn rule(gates: &[u8], kind: u8, parameter: u8, first: u8, second: u8, held: u8) 
 // What the module at position k comes to over the present values, holding the value that it came to last.
 pub(crate) fn comes_to(
     gates: &[u8],
-    table: &[u8; 2048],
+    table: &[u8; TABLE],
     k: usize,
-    values: &[u8; 256],
-    last: &[u8; 256],
+    values: &[u8; NODES],
+    last: &[u8; MODULES],
 ) -> u8
-    requires { ⌜ (k < 256) × (now gates ≡ tables) × Known (tableAt (now table) k 0) (tableAt (now table) k 1) × Levels (now values)
+    requires { ⌜ (k < mostModules) × (now gates ≡ tables) × Known (tableAt (now table) k 0) (tableAt (now table) k 1) × Levels (now values)
         × Levels (now last) ⌝ }
     ensures { λ r. ⌜ ((delays : List ℕ) (n : ℕ) → k < n
         → r ≡ comesToNow (modulesIn (now (table .entry)) delays n) (now (values .entry)) (now (last .entry)) k)
@@ -59,8 +63,8 @@ pub(crate) fn comes_to(
 }
 
 // What the module at position k contributes reaches its output node here, and nowhere else.
-pub(crate) fn give(table: &[u8; 2048], k: usize, value: u8, values: &mut [u8; 256])
-    requires { ⌜ (k < 256) × (value < 4) × Levels (now values) ⌝ }
+pub(crate) fn give(table: &[u8; TABLE], k: usize, value: u8, values: &mut [u8; NODES])
+    requires { ⌜ (k < mostModules) × (value < 4) × Levels (now values) ⌝ }
     ensures { λ _. ⌜ ((delays : List ℕ) (n : ℕ) → k < n
         → now (values .exit) ≡ give (moduleIn (modulesIn (now (table .entry)) delays n) k) value (now (values .entry)))
         × Levels (now (values .exit)) ⌝ }

@@ -1,11 +1,14 @@
 // The delayed modules: what each comes to now is scheduled, if it differs from what it came to last.
+use crate::TABLE;
 use crate::bytes::wide16;
 use crate::contribution::comes_to;
 use pending::Store;
+use sheet::MODULES;
+use sheet::NODES;
 ghost use mathlib.Core.Path.{_≡_};
 ghost use Prim.Native.Nat.{ℕ, _+_, _<_, _≤_};
 ghost use Rattle.level.specs.Table.{tables};
-ghost use Rattle.sheet.specs.Limits.{greatestHorizon};
+ghost use Rattle.sheet.specs.Limits.{greatestHorizon, mostModules};
 ghost use Rattle.model.specs.Passes.{scheduleOne, schedule};
 ghost use Rattle.pending.specs.Kept.{arrangement, keptIn, pendingRoom, Sized};
 ghost use Rattle.tick.specs.Tables.{tableAt, modulesIn};
@@ -15,17 +18,17 @@ ghost use Rattle.tick.specs.Tick.{scheduled};
 // Schedules what the module at position k comes to. Answers how many changes are pending then.
 fn schedule_one(
     gates: &[u8],
-    table: &[u8; 2048],
-    delays: &[u16; 256],
+    table: &[u8; TABLE],
+    delays: &[u16; MODULES],
     k: usize,
     t: u32,
     horizon: u32,
-    values: &[u8; 256],
-    last: &mut [u8; 256],
+    values: &[u8; NODES],
+    last: &mut [u8; MODULES],
     store: &mut Store,
     count: usize,
 ) -> usize
-    requires { ⌜ (k < 256) × (now gates ≡ tables) × Known (tableAt (now table) k 0) (tableAt (now table) k 1) × (t < horizon)
+    requires { ⌜ (k < mostModules) × (now gates ≡ tables) × Known (tableAt (now table) k 0) (tableAt (now table) k 1) × (t < horizon)
         × (horizon ≤ greatestHorizon) × Levels (now values) × Levels (now last) × Sized (now store) × (count < pendingRoom) ⌝ }
     ensures { λ r. ⌜ ((n : ℕ) → k < n → scheduled (now (last .exit)) (keptIn (now (store .exit)) r)
         ≡ scheduleOne arrangement (modulesIn (now (table .entry)) (now (delays .entry)) n) t horizon (now (values .entry))
@@ -47,17 +50,17 @@ fn schedule_one(
 // Schedules what the first n modules come to. Answers how many changes are pending then.
 pub(crate) fn schedule_all(
     gates: &[u8],
-    table: &[u8; 2048],
-    delays: &[u16; 256],
+    table: &[u8; TABLE],
+    delays: &[u16; MODULES],
     n: usize,
     t: u32,
     horizon: u32,
-    values: &[u8; 256],
-    last: &mut [u8; 256],
+    values: &[u8; NODES],
+    last: &mut [u8; MODULES],
     store: &mut Store,
     count: usize,
 ) -> usize
-    requires { ⌜ (n ≤ 256) × (now gates ≡ tables) × KnownIn (now table) n × (t < horizon) × (horizon ≤ greatestHorizon)
+    requires { ⌜ (n ≤ mostModules) × (now gates ≡ tables) × KnownIn (now table) n × (t < horizon) × (horizon ≤ greatestHorizon)
         × Levels (now values) × Levels (now last) × Sized (now store) × (count + n ≤ pendingRoom) ⌝ }
     ensures { λ r. ⌜ ((modules : ℕ) → n ≤ modules → scheduled (now (last .exit)) (keptIn (now (store .exit)) r)
         ≡ schedule arrangement (modulesIn (now (table .entry)) (now (delays .entry)) modules) t horizon (now (values .entry)) n

@@ -1,7 +1,9 @@
 // The changes due at a tick: given to their nodes, and taken from the pending ones.
+use crate::TABLE;
 use crate::contribution::give;
 use pending::Due;
 use pending::Store;
+use sheet::NODES;
 ghost use mathlib.Core.List.{List};
 ghost use mathlib.Core.Path.{_≡_};
 ghost use Prim.Native.Nat.{ℕ, _≤_};
@@ -12,11 +14,11 @@ ghost use Rattle.tick.specs.Rest.{Levels, Placed};
 
 // Gives the changes due at tick t, each to its module's node. Answers how many stay pending.
 pub(crate) fn give_due(
-    table: &[u8; 2048],
+    table: &[u8; TABLE],
     t: u32,
     store: &mut Store,
     count: usize,
-    values: &mut [u8; 256],
+    values: &mut [u8; NODES],
 ) -> usize
     requires { ⌜ (count ≤ pendingRoom) × Sized (now store) × Levels (now values) ⌝ }
     ensures { λ r. ⌜ ((delays : List ℕ) (n : ℕ) → Placed n (arrangement .due (keptIn (now (store .entry)) count) t)

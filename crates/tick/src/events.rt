@@ -1,7 +1,10 @@
 // The drive's events of a tick.
 use crate::bytes::wide;
+use sheet::EVENTS;
+use sheet::NODES;
 ghost use mathlib.Core.Path.{_≡_};
 ghost use Prim.Native.Nat.{suc, _≤_};
+ghost use Rattle.sheet.specs.Limits.{mostEvents};
 ghost use Rattle.model.specs.Drive.{nextEvent, driveTick};
 ghost use Rattle.tick.specs.Tables.{driveIn};
 ghost use Rattle.tick.specs.Rest.{Levels, Driving};
@@ -9,15 +12,15 @@ ghost use Rattle.tick.specs.Rest.{Levels, Driving};
 // Puts the events of tick t into the values, from the first event that is not before it.
 // Answers the first event that is not before the next tick.
 pub(crate) fn drive_all(
-    ticks: &[u32; 1024],
-    nodes: &[u8; 1024],
-    levels: &[u8; 1024],
+    ticks: &[u32; EVENTS],
+    nodes: &[u8; EVENTS],
+    levels: &[u8; EVENTS],
     events: u16,
     next: u16,
     t: u32,
-    values: &mut [u8; 256],
+    values: &mut [u8; NODES],
 ) -> u16
-    requires { ⌜ (events ≤ 1024) × Driving (driveIn (now ticks) (now nodes) (now levels) events)
+    requires { ⌜ (events ≤ mostEvents) × Driving (driveIn (now ticks) (now nodes) (now levels) events)
         × (next ≡ nextEvent (driveIn (now ticks) (now nodes) (now levels) events) t) × Levels (now values) ⌝ }
     ensures { λ r. ⌜ (r ≡ nextEvent (driveIn (now (ticks .entry)) (now (nodes .entry)) (now (levels .entry)) events) (suc t))
         × (now (values .exit)

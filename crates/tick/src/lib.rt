@@ -15,10 +15,16 @@ pub use crate::load::load_event;
 pub use crate::load::load_module;
 use crate::zero_delay::settle_all;
 use pending::Store;
+use sheet::EVENTS;
+use sheet::MODULES;
+use sheet::NODES;
 ghost use mathlib.Core.Path.{_≡_};
 ghost use Rattle.pending.specs.Kept.{keptIn};
 ghost use Rattle.level.specs.Table.{tables};
 ghost use Rattle.tick.specs.Tick.{Workable, Worked, loadedIn};
+
+// The bytes of the modules' table, 8 for each.
+pub const TABLE: usize = 8 * MODULES;
 
 // How many modules there are, how many of them are delayed, and how many events.
 pub struct Shape {
@@ -39,13 +45,13 @@ pub fn work(
     horizon: u32,
     t: u32,
     gates: &[u8],
-    table: &[u8; 2048],
-    delays: &[u16; 256],
-    ticks: &[u32; 1024],
-    nodes: &[u8; 1024],
-    levels: &[u8; 1024],
-    values: &mut [u8; 256],
-    last: &mut [u8; 256],
+    table: &[u8; TABLE],
+    delays: &[u16; MODULES],
+    ticks: &[u32; EVENTS],
+    nodes: &[u8; EVENTS],
+    levels: &[u8; EVENTS],
+    values: &mut [u8; NODES],
+    last: &mut [u8; MODULES],
     store: &mut Store,
     before: Standing,
 ) -> Standing

@@ -1,14 +1,18 @@
 // The tables' layout: a module's record, and an event's, put to its place. An array of structs cannot be lent, so each part has an array.
+use crate::TABLE;
+use sheet::EVENTS;
 use sheet::Event;
+use sheet::MODULES;
 use sheet::Module;
 ghost use mathlib.Core.Path.{_≡_};
 ghost use Prim.Native.Nat.{_<_};
 ghost use lib.ListN.{length};
-ghost use Rattle.tick.specs.Tables.{ModulePut, EventPut};
+ghost use Rattle.sheet.specs.Limits.{mostModules, mostEvents};
+ghost use Rattle.tick.specs.Tables.{tableSize, ModulePut, EventPut};
 
 // Puts a module's record to position k.
-pub fn load_module(m: Module, k: usize, table: &mut [u8; 2048], delays: &mut [u16; 256])
-    requires { ⌜ (k < 256) × (length (now table) ≡ 2048) × (length (now delays) ≡ 256) ⌝ }
+pub fn load_module(m: Module, k: usize, table: &mut [u8; TABLE], delays: &mut [u16; MODULES])
+    requires { ⌜ (k < mostModules) × (length (now table) ≡ tableSize) × (length (now delays) ≡ mostModules) ⌝ }
     ensures { λ _. ⌜ ModulePut (now (table .entry)) (now (delays .entry)) k m (now (table .exit)) (now (delays .exit)) ⌝ }
 {
     let at = 8 * k;
@@ -24,11 +28,11 @@ pub fn load_module(m: Module, k: usize, table: &mut [u8; 2048], delays: &mut [u1
 pub fn load_event(
     event: Event,
     e: usize,
-    ticks: &mut [u32; 1024],
-    nodes: &mut [u8; 1024],
-    levels: &mut [u8; 1024],
+    ticks: &mut [u32; EVENTS],
+    nodes: &mut [u8; EVENTS],
+    levels: &mut [u8; EVENTS],
 )
-    requires { ⌜ (e < 1024) × (length (now ticks) ≡ 1024) × (length (now nodes) ≡ 1024) × (length (now levels) ≡ 1024) ⌝ }
+    requires { ⌜ (e < mostEvents) × (length (now ticks) ≡ mostEvents) × (length (now nodes) ≡ mostEvents) × (length (now levels) ≡ mostEvents) ⌝ }
     ensures { λ _. ⌜ EventPut (now (ticks .entry)) (now (nodes .entry)) (now (levels .entry)) e event
         (now (ticks .exit)) (now (nodes .exit)) (now (levels .exit)) ⌝ }
 {

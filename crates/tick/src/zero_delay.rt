@@ -1,10 +1,14 @@
 // The modules of delay zero, worked in their order over the present values.
+use crate::TABLE;
 use crate::contribution::comes_to;
 use crate::contribution::give;
+use sheet::MODULES;
+use sheet::NODES;
 ghost use mathlib.Core.List.{List};
 ghost use mathlib.Core.Path.{_≡_};
 ghost use Prim.Native.Nat.{ℕ, _-_, _<_, _≤_};
 ghost use Rattle.level.specs.Table.{tables};
+ghost use Rattle.sheet.specs.Limits.{mostModules};
 ghost use Rattle.model.specs.Passes.{settleOne, settle};
 ghost use Rattle.tick.specs.Tables.{tableAt, modulesIn};
 ghost use Rattle.tick.specs.Rest.{Known, KnownIn, Levels};
@@ -13,12 +17,12 @@ ghost use Rattle.tick.specs.Tick.{settled};
 // Works the module at position k.
 fn settle_one(
     gates: &[u8],
-    table: &[u8; 2048],
+    table: &[u8; TABLE],
     k: usize,
-    values: &mut [u8; 256],
-    last: &mut [u8; 256],
+    values: &mut [u8; NODES],
+    last: &mut [u8; MODULES],
 )
-    requires { ⌜ (k < 256) × (now gates ≡ tables) × Known (tableAt (now table) k 0) (tableAt (now table) k 1) × Levels (now values)
+    requires { ⌜ (k < mostModules) × (now gates ≡ tables) × Known (tableAt (now table) k 0) (tableAt (now table) k 1) × Levels (now values)
         × Levels (now last) ⌝ }
     ensures { λ _. ⌜ ((delays : List ℕ) (n : ℕ) → k < n → settled (now (values .exit)) (now (last .exit))
         ≡ settleOne (modulesIn (now (table .entry)) delays n) (settled (now (values .entry)) (now (last .entry))) k)
@@ -32,13 +36,13 @@ fn settle_one(
 // Works the modules from a position up to another.
 pub(crate) fn settle_all(
     gates: &[u8],
-    table: &[u8; 2048],
+    table: &[u8; TABLE],
     from: usize,
     to: usize,
-    values: &mut [u8; 256],
-    last: &mut [u8; 256],
+    values: &mut [u8; NODES],
+    last: &mut [u8; MODULES],
 )
-    requires { ⌜ (from ≤ to) × (to ≤ 256) × (now gates ≡ tables) × KnownIn (now table) to × Levels (now values) × Levels (now last) ⌝ }
+    requires { ⌜ (from ≤ to) × (to ≤ mostModules) × (now gates ≡ tables) × KnownIn (now table) to × Levels (now values) × Levels (now last) ⌝ }
     ensures { λ _. ⌜ ((delays : List ℕ) → settled (now (values .exit)) (now (last .exit))
         ≡ settle (modulesIn (now (table .entry)) delays to) from (to - from) (settled (now (values .entry)) (now (last .entry))))
         × Levels (now (values .exit)) × Levels (now (last .exit)) ⌝ }
