@@ -14,7 +14,7 @@ use Rattle.model.specs.Change.{Change}
 use Rattle.pending.specs.declared.Scan.{Scan}
 use Rattle.pending.specs.Flat.{places, unpacked, flatDue, flatRest}
 use Rattle.pending.specs.Kept.{arrangement, keptIn, Sized}
-use Rattle.pending.specs.Taking.{fromStart, Taking, OneTaken, AllTaken}
+use Rattle.pending.specs.Taking.{fromStart, Taking, OneTaken, OneKept, AllTaken}
 
 abbrev scanned : ℕ → ℕ → Scan
 scanned kept at = record { kept = kept; at = at }
@@ -71,9 +71,9 @@ module _ {start : List ℕ} {t : ℕ} {taken : List Change} {store : List ℕ} {
     one-more : take (at + 1) start ≡ take at start ++ here ∷ []
     one-more = rw (add-one, cons-head ahead) (take-suc start at 0 (omega arith))
 
-    pub due-passed : (from : Scan) → from .at ≤ at → unpacked here .due ≡ t
-        → OneTaken start t taken store count from (record { due = t; position = unpacked here .position; value = unpacked here .value }) (scanned kept (at + 1))
-    due-passed from b e =
+    pub due-passed : unpacked here .due ≡ t
+        → OneTaken start t taken store count (scanned kept at) (record { due = t; position = unpacked here .position; value = unpacked here .value }) (scanned kept (at + 1))
+    due-passed e =
         record {
           position = omega arith;
           value = omega arith;
@@ -88,14 +88,18 @@ module _ {start : List ℕ} {t : ℕ} {taken : List Change} {store : List ℕ} {
               };
         }
 
-    pub kept-passed : (unpacked here .due ≡ t → ⊥) → Taking start t taken (set store kept here) count (scanned (kept + 1) (at + 1))
+    pub kept-passed : (unpacked here .due ≡ t → ⊥) → OneKept start t taken (set store kept here) count (scanned kept at) (scanned (kept + 1) (at + 1))
     kept-passed e =
         record {
-          within = record { kept = omega arith; at = omega arith; room = w .within .room; size = length-set store kept here ∙ w .within .size };
-          counted = w .counted;
-          takes = rw (one-more, due-more, ne-eqb (unpacked here .due) t e) (w .takes ∙ sym (append-nil _));
-          stay = rw (one-more, rest-more, ne-eqb (unpacked here .due) t e, add-one, ← w .stay) (take-suc-set store kept here (omega arith));
-          ahead = rw (take-set-lt count store kept here (omega arith), drop-set-lt (at + 1) (take count store) kept here (omega arith)) (cons-tail ahead);
+          nearer = omega arith;
+          taking =
+              record {
+                within = record { kept = omega arith; at = omega arith; room = w .within .room; size = length-set store kept here ∙ w .within .size };
+                counted = w .counted;
+                takes = rw (one-more, due-more, ne-eqb (unpacked here .due) t e) (w .takes ∙ sym (append-nil _));
+                stay = rw (one-more, rest-more, ne-eqb (unpacked here .due) t e, add-one, ← w .stay) (take-suc-set store kept here (omega arith));
+                ahead = rw (take-set-lt count store kept here (omega arith), drop-set-lt (at + 1) (take count store) kept here (omega arith)) (cons-tail ahead);
+              };
         }
 
   pub all-passed : count ≤ at → AllTaken start t taken store count kept

@@ -5,8 +5,8 @@ use Prim.Native.Nat.{ℕ, _-_, _<_, _≤_}
 use lib.ListN.{length, take, drop}
 use Rattle.model.specs.Change.{Change}
 use Rattle.pending.specs.declared.Scan.{Scan}
-use Rattle.pending.specs.declared.Due.{Due}
-use Rattle.pending.specs.declared.Due.the-variants as due
+use Rattle.pending.specs.declared.Met.{Met}
+use Rattle.pending.specs.declared.Met.the-variants as met
 use Rattle.pending.specs.Flat.{places, flatDue, flatRest}
 use Rattle.pending.specs.Kept.{arrangement, keptIn}
 
@@ -41,6 +41,11 @@ module _ (start : List ℕ) (t : ℕ) where
     pub nearer : toGo count scan < toGo count from
     pub taking : Taking (taken ++ x ∷ []) store count scan
 
+  -- one more change stays, and the scan has gone on past it
+  pub record OneKept (taken : List Change) (store : List ℕ) (count : ℕ) (from scan : Scan) : Type 0 where
+    pub nearer : toGo count scan < toGo count from
+    pub taking : Taking taken store count scan
+
   -- all that are due are taken, and the n that stay stand first
   pub record AllTaken (taken : List Change) (store : List ℕ) (count n : ℕ) : Type 0 where
     pub takes : taken ≡ arrangement .due start t
@@ -49,6 +54,7 @@ module _ (start : List ℕ) (t : ℕ) where
     pub size : length store ≡ places
 
   -- what is met next, from a scan on
-  abbrev pub TakenOn : List Change → List ℕ → ℕ → Scan → Due → Type 0
-  TakenOn taken store count from (due.Change k v scan) = OneTaken taken store count from (record { due = t; position = k; value = v }) scan
-  TakenOn taken store count from (due.Done n) = AllTaken taken store count n
+  abbrev pub TakenOn : List Change → List ℕ → ℕ → Scan → Met → Type 0
+  TakenOn taken store count from (met.Due k v scan) = OneTaken taken store count from (record { due = t; position = k; value = v }) scan
+  TakenOn taken store count from (met.Stays scan) = OneKept taken store count from scan
+  TakenOn taken store count from (met.End n) = AllTaken taken store count n

@@ -19,10 +19,11 @@ pub struct Scan {
     pub at: usize,
 }
 
-// What is met next: the position and value of a change that is due, and where to go on; or none, and how many stay.
-pub enum Due {
-    Change(usize, u8, Scan),
-    Done(usize),
+// What is met next: the position and value of a change that is due, or one that stays, and where to go on; or the end, and how many stay.
+pub enum Met {
+    Due(usize, u8, Scan),
+    Stays(Scan),
+    End(usize),
 }
 
 // Room for the pending changes, none of them put yet.
@@ -50,23 +51,28 @@ pub fn from_start() -> Scan
     Scan { kept: 0, at: 0 }
 }
 
-// Goes on from `scan` over the `count` pending changes to the next one that is due at tick t.
-// Those passed on the way move down to the others that stay.
-pub fn next_due(store: &mut Store, scan: Scan, count: usize, t: u32) -> Due
+// Goes on from `scan` past the next of the `count` pending changes, at tick t. One that is not due moves down to the others that stay.
+pub fn pass_next(store: &mut Store, scan: Scan, count: usize, t: u32) -> Met
     requires { ⌜ Within (now store) count scan ⌝ }
     ensures { λ r. ⌜ ((start : List ℕ) (taken : List Change)
         → Taking start t taken (now (store .entry)) count scan → TakenOn start t taken (now (store .exit)) count scan r) ⌝ }
 {
-    let mut kept = scan.kept;
-    let mut at = scan.at;
-    while at < count {
-        let p = store[at];
-        at += 1;
-        if p / 1024 == t {
-            return Due::Change((p / 4 % 256) as usize, (p % 4) as u8, Scan { kept, at });
-        }
-        store[kept] = p;
-        kept += 1;
+    let kept = scan.kept;
+    let at = scan.at;
+    if at >= count {
+        return Met::End(kept);
     }
-    Due::Done(kept)
+    let p = store[at];
+    if p / 1024 == t {
+        return Met::Due(
+            (p / 4 % 256) as usize,
+            (p % 4) as u8,
+            Scan { kept, at: at + 1 },
+        );
+    }
+    store[kept] = p;
+    Met::Stays(Scan {
+        kept: kept + 1,
+        at: at + 1,
+    })
 }

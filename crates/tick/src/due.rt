@@ -1,7 +1,7 @@
 // The changes due at a tick: given to their nodes, and taken from the pending ones.
 use crate::TABLE;
 use crate::contribution::give;
-use pending::Due;
+use pending::Met;
 use pending::Store;
 use sheet::NODES;
 ghost use mathlib.Core.List.{List};
@@ -29,13 +29,16 @@ pub(crate) fn give_due(
 {
     let mut scan = pending::from_start();
     loop {
-        let due = pending::next_due(store, scan, count, t);
-        match due {
-            Due::Change(k, value, next) => {
+        let met = pending::pass_next(store, scan, count, t);
+        match met {
+            Met::Due(k, value, next) => {
                 give(table, k, value, values);
                 scan = next;
             }
-            Due::Done(kept) => {
+            Met::Stays(next) => {
+                scan = next;
+            }
+            Met::End(kept) => {
                 return kept;
             }
         }

@@ -1,7 +1,7 @@
 -- `tick::due::give_due` meets its contract. The loop's invariant: the changes taken are given to the values. Assumes nothing.
 use borrow.Author.Needs.{needs}
 use Rattle.pending.specs.Taking.{toGo}
-use Rattle.tick.proofs.Given.{Given, none-given, one-taken, one-given, all-given}
+use Rattle.tick.proofs.Given.{Given, none-given, one-taken, one-given, one-kept, still-given, all-given}
 use Rattle.tick.proofs.due.give_due.Statement.{statement}
 use Rattle.tick.proofs.due.give_due.Tie as tie
 
@@ -19,34 +19,43 @@ loop-holds c =
     let b = c .before in
     rw (c .from-start .ensures) (none-given (b .args .table .now) (b .args .t) (b .args .store .now) (b .args .count) (b .pre .0) (b .pre .1) (b .pre .2))
 
-next-due-requires : tie.Need-next-due-requires Inv-loop μ-loop
-next-due-requires c κs = c .before .loop .inv .taking .within
+pass-next-requires : tie.Need-pass-next-requires Inv-loop μ-loop
+pass-next-requires c κs = c .before .loop .inv .taking .within
 
-enum-known-due : tie.Need-enum-known-due Inv-loop μ-loop
-enum-known-due c = search needs
+enum-known-met : tie.Need-enum-known-met Inv-loop μ-loop
+enum-known-met c = search needs
 
 give-requires : tie.Need-give-requires Inv-loop μ-loop
 give-requires c κs =
     let l = c .before .before .before .before .before .before in
-    let o = one-taken (l .loop .inv) _ (c .before .before .before .before .next-due .ensures) (c .before .before .due .given .1) in
+    let o = one-taken (l .loop .inv) _ (c .before .before .before .before .pass-next .ensures) (c .before .before .met .given .1) in
     (o .position, o .value, l .loop .inv .levels)
 
 loop-less : tie.Need-loop-less Inv-loop μ-loop
 loop-less c =
     let l = c .before .before .before .before .before .before .before in
-    let o = one-taken (l .loop .inv) _ (c .before .before .before .before .before .next-due .ensures) (c .before .before .before .due .given .1) in
+    let o = one-taken (l .loop .inv) _ (c .before .before .before .before .before .pass-next .ensures) (c .before .before .before .met .given .1) in
     o .nearer
 
 loop-again : tie.Need-loop-again Inv-loop μ-loop
 loop-again c =
     let l = c .before .before .before .before .before .before .before in
-    one-given (l .loop .inv) _ (c .before .before .before .before .before .next-due .ensures) (c .before .before .before .due .given .1) (c .give .ensures)
+    one-given (l .loop .inv) _ (c .before .before .before .before .before .pass-next .ensures) (c .before .before .before .met .given .1) (c .give .ensures)
 
-enum-known-due-2 : tie.Need-enum-known-due-2 Inv-loop μ-loop
-enum-known-due-2 c = search needs
+enum-known-met-2 : tie.Need-enum-known-met-2 Inv-loop μ-loop
+enum-known-met-2 c = search needs
+
+loop-less-2 : tie.Need-loop-less-2 Inv-loop μ-loop
+loop-less-2 c = one-kept (c .before .before .before .before .before .loop .inv) _ (c .before .before .before .pass-next .ensures) (c .before .met2 .given .1) .nearer
+
+loop-again-2 : tie.Need-loop-again-2 Inv-loop μ-loop
+loop-again-2 c = still-given (c .before .before .before .before .before .loop .inv) _ (c .before .before .before .pass-next .ensures) (c .before .met2 .given .1)
+
+enum-known-met-3 : tie.Need-enum-known-met-3 Inv-loop μ-loop
+enum-known-met-3 c = search needs
 
 returns : tie.Need-returns Inv-loop μ-loop
-returns c = all-given (c .before .before .before .before .before .loop .inv) _ (c .before .before .before .next-due .ensures) (c .before .due2 .given .1)
+returns c = all-given (c .before .before .before .before .before .loop .inv) _ (c .before .before .before .pass-next .ensures) (c .before .met3 .given .1)
 
 pub give-due-spec : {M : Type 1} → statement M
 give-due-spec =
@@ -56,10 +65,13 @@ give-due-spec =
     μ-loop
     from-start-requires
     loop-holds
-    next-due-requires
-    enum-known-due
+    pass-next-requires
+    enum-known-met
     give-requires
     loop-less
     loop-again
-    enum-known-due-2
+    enum-known-met-2
+    loop-less-2
+    loop-again-2
+    enum-known-met-3
     returns)
