@@ -17,13 +17,11 @@ use Rattle.sheet.specs.Bytes.{wordAt}
 use Rattle.sheet.specs.Sheet.{Sheet, nodeCount, moduleCount, moduleOf, outputOf, eventCount, eventOf, watchedCount, watchedNode}
 use Rattle.sheet.specs.Layout.{countSize, nodesCounted, nodeAt, modulesCounted, moduleAt, eventsCounted, eventAt, watchedPlace, watchedCounted, watchedAt, sheetEnd, sheetOf}
 use Rattle.sheet.specs.Wiring.{isInput, drivenAtStart}
-use Rattle.sheet.specs.Loop.{Chain, link, more, OnLoop}
 use Rattle.sheet.specs.Refusal.{key, checked}
 use Rattle.format.specs.Accepted.{Driven, Input, SoundModule, SoundEvent, Accepted, Known, the-first, AcceptedIn}
 use Rattle.format.specs.Condition.{Count, of-nodes, of-modules, of-drive, of-watched, Part, a-count, a-node, a-module, an-event, a-watched, Miswired, output-no-node, input-no-node, unused-not-0, NotAbove, not-above, Condition, ends-inside, outside-range, byte-above, kind-above, parameter-not-allowed, wrong-wiring, delay-above, already-driven, driven-or-not, tick-above, not-an-input, value-above, not-above-before, no-first-event, wrong-watched, left-over, on-loop}
 use Rattle.sheet.proofs.Tests.{decided, at-most}
 use Rattle.sheet.proofs.Parts.{node-count, node-byte, module-count, module-of, event-count, event-of, watched-count, watched-node}
-use Rattle.format.proofs.Chains.{loop-test}
 use Rattle.format.proofs.Condition.{tells-input, tells-at-start}
 use Rattle.format.proofs.Checked.{finished-iff}
 
@@ -50,11 +48,6 @@ rises f n step a (suc b) h l = go (rises f n step a b) (ℕ-discrete a b)
 filled : (place count l : ℕ) → place + countSize ≤ l → ((k : ℕ) → k < count → place + countSize + k + 1 ≤ l) → place + countSize + count ≤ l
 filled place zero l counted records = omega arith
 filled place (suc count) l counted records = omega (arith, records count (omega arith))
-
--- a chain starts with a module
-chain-from : {S : Sheet} {a b : ℕ} → Chain S a b → a < moduleCount S
-chain-from (link f) = f .from
-chain-from (more f c) = f .from
 
 module _ (E : Edition) (s : List ℕ) where
   abbrev S : Sheet
@@ -109,9 +102,6 @@ module _ (E : Edition) (s : List ℕ) where
     sound-modules : (m : ℕ) → m < moduleCount S → SoundModule (nodeCount S) (moduleOf S m)
     sound-modules m h = subst₂ SoundModule (sym (node-count E s)) (sym (module-of E s m (listed-module h))) (module-sound m (listed-module h))
 
-    loop-node : {v : ℕ} → OnLoop S v → v < nodeCount S
-    loop-node l = subst (λ v. v < nodeCount S) (l .output) (sound-modules (l .driver) (chain-from (l .closed)) .output)
-
     drivers : (a b : ℕ) → a < modulesCounted s → b < modulesCounted s → moduleAt E s a .output ≡ moduleAt E s b .output → a ≡ b
     drivers a b i j e = omega (arith, at-most (λ l. none _ _ (already-driven b j a l e)), at-most (λ l. none _ _ (already-driven a i b l (sym e))))
 
@@ -158,7 +148,7 @@ module _ (E : Edition) (s : List ℕ) where
           drive-rises = rises (λ k. key (eventOf S k)) (eventCount S) events-rise;
           driven-at-start = λ v i. Dec·not-not (decided (drivenAtStart S v) (tells-at-start S v)) .0 (λ c. none _ _ (no-first-event v i c));
           watched-rise = rises (watchedNode S) (watchedCount S) watched-rises;
-          no-loop = λ v l. none _ _ (on-loop v (loop-node l) (loop-test S (λ m h. sound-modules m h .output) v .1 l));
+          no-loop = λ v l. none _ _ (on-loop v l);
         }
 
     bytes-accepted : AcceptedIn E s
@@ -240,7 +230,7 @@ module _ (E : Edition) (s : List ℕ) (a : AcceptedIn E s) where
   refuted n p (wrong-watched k h (inl c)) = not-le-of-lt (subst₂ _<_ (watched-node E s k h) (node-count E s) (a′ .watched-nodes k (rw (watched-count E s) h))) c
   refuted n p (wrong-watched k h (inr c)) = risen watched-risen k h c
   refuted n p (left-over c) = not-le-of-lt c (le-of-eq (a .whole))
-  refuted n p (on-loop v h c) = a′ .no-loop v (loop-test S′ (λ m h. a′ .sound-modules m h .output) v .0 c)
+  refuted n p (on-loop v c) = a′ .no-loop v c
 
 pub accepted : (E : Edition) → Known E → (s : List ℕ) → checked E s ≡ finished 0 → AcceptedIn E s
 accepted E known s e = bytes-accepted E s known (finished-iff E (some-size known) s .0 e)

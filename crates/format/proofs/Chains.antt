@@ -5,14 +5,15 @@ use mathlib.Core.Bool.{true, _&&_}
 use mathlib.Core.List.{List·Memᴰ, Memᴰ·cast}
 use mathlib.Core.Logic.{inl, ⊎-elim}
 use mathlib.Core.Path.{_≡_, refl, sym, subst}
-use Prim.Native.Nat.{ℕ, zero, suc, _<_}
-use native.Mathlib.Nat.{le-of-suc-le-suc, eq-or-lt-of-le, not-suc-le-zero}
+use Prim.Native.Nat.{ℕ, zero, suc, _<_, _≤_}
+use native.Mathlib.Nat.{le-of-suc-le-suc, eq-or-lt-of-le, not-suc-le-zero, le-refl}
+use native.Mathlib.Omega.{arith}
 use lib.Dec.{eqb}
 use Rattle.sheet.specs.declared.Module.{Module}
 use Rattle.sheet.specs.Enumerate.{anyOf}
 use Rattle.sheet.specs.Sheet.{Sheet, nodeCount, moduleCount, moduleOf}
 use Rattle.sheet.specs.Wiring.{usedInputs}
-use Rattle.sheet.specs.Loop.{Feeds, Chain, link, more, OnLoop, links, leads, leadsOver, onLoop, Outputs}
+use Rattle.sheet.specs.Loop.{Feeds, Chain, link, more, OnLoop, links, leads, leadsOver, onLoop}
 use Rattle.sheet.proofs.Tests.{Tells, tells-as, tells-eq, tells-and, tells-below, tells-member}
 use Rattle.format.proofs.Over.{via, Over, tells-via, over-new, over-old}
 
@@ -47,15 +48,15 @@ module _ (S : Sheet) where
   tells-leads u v = tells-below (moduleCount S) (λ m. links (moduleOf S m) u v) (λ m. tells-links (moduleOf S m) u v)
 
   -- soundness
-  one : (u v : ℕ) → leads S u v ≡ true → Reaches S u v
-  one u v t = go (tells-leads u v .0 t)
+  one : (u v : ℕ) → u < nodeCount S → leads S u v ≡ true → Reaches S u v
+  one u v n t = go (tells-leads u v .0 t)
     where
       go : (m : ℕ) × (m < moduleCount S) × Linked (moduleOf S m) u v → Reaches S u v
       go (m, l, h) =
           record {
             last = m;
             drives = record { below = l; at-once = h .at-once; output = h .output };
-            chain = λ a d. link (record { from = d .below; to = l; from-at-once = d .at-once; to-at-once = h .at-once; used = Memᴰ·cast (d .output) (h .used) });
+            chain = λ a d. link (record { from = d .below; to = l; from-at-once = d .at-once; to-at-once = h .at-once; node = subst (λ w. w < nodeCount S) (sym (d .output)) n; used = Memᴰ·cast (d .output) (h .used) });
           }
 
   joined : {a b c : ℕ} → Chain S a b → Chain S b c → Chain S a c
@@ -65,11 +66,12 @@ module _ (S : Sheet) where
   over : {u w v : ℕ} → Reaches S u w → Reaches S w v → Reaches S u v
   over p q = record { last = q .last; drives = q .drives; chain = λ a d. joined (p .chain a d) (q .chain (p .last) (p .drives)) }
 
-  reaches : (k u v : ℕ) → leadsOver S k u v ≡ true → Reaches S u v
+  reaches : (k u v : ℕ) → k ≤ nodeCount S → u < nodeCount S → leadsOver S k u v ≡ true → Reaches S u v
   unfolding leadsOver
-  reaches zero u v t = one u v t
-  reaches (suc k) u v t =
-      ⊎-elim (reaches k u v) (λ h. over (reaches k u k (h .0)) (reaches k k v (h .1))) (tells-via (leadsOver S k) k u v .0 t)
+  reaches zero u v l n t = one u v n t
+  reaches (suc k) u v l n t =
+      let b : k ≤ nodeCount S = omega (arith, l) in
+      ⊎-elim (reaches k u v b n) (λ h. over (reaches k u k b n (h .0)) (reaches k k v b l (h .1))) (tells-via (leadsOver S k) k u v .0 t)
 
   closed : {v : ℕ} → Reaches S v v → OnLoop S v
   closed p = record { driver = p .last; closed = p .chain (p .last) (p .drives); output = p .drives .output }
@@ -94,12 +96,20 @@ module _ (S : Sheet) where
       (λ h. over-old (leadsOver S k) k w (through k w h))
       (eq-or-lt-of-le (le-of-suc-le-suc l))
 
-  found : Outputs S → {a b : ℕ} → Chain S a b → leadsOver S (nodeCount S) (moduleOf S a .output) (moduleOf S b .output) ≡ true
-  found ok (link f) = kept (nodeCount S) _ _ (fed f)
-  found ok (more f d) = through (nodeCount S) _ (ok _ (f .to)) _ _ (kept (nodeCount S) _ _ (fed f)) (found ok d)
+  -- a chain begins at a node
+  first-node : {a b : ℕ} → Chain S a b → moduleOf S a .output < nodeCount S
+  first-node (link f) = f .node
+  first-node (more f d) = f .node
 
-  pub loop-test : Outputs S → (v : ℕ) → Tells (onLoop S v) (OnLoop S v)
-  loop-test ok v = (
-    λ t. closed (reaches (nodeCount S) v v t),
-    λ o. subst (λ (u : ℕ). leadsOver S (nodeCount S) u u ≡ true) (o .output) (found ok (o .closed)),
+  found : {a b : ℕ} → Chain S a b → leadsOver S (nodeCount S) (moduleOf S a .output) (moduleOf S b .output) ≡ true
+  found (link f) = kept (nodeCount S) _ _ (fed f)
+  found (more f d) = through (nodeCount S) _ (first-node d) _ _ (kept (nodeCount S) _ _ (fed f)) (found d)
+
+  pub loop-node : {v : ℕ} → OnLoop S v → v < nodeCount S
+  loop-node o = subst (λ u. u < nodeCount S) (o .output) (first-node (o .closed))
+
+  pub loop-test : (v : ℕ) → v < nodeCount S → Tells (onLoop S v) (OnLoop S v)
+  loop-test v n = (
+    λ t. closed (reaches (nodeCount S) v v (le-refl (nodeCount S)) n t),
+    λ o. subst (λ (u : ℕ). leadsOver S (nodeCount S) u u ≡ true) (o .output) (found (o .closed)),
   )

@@ -76,7 +76,7 @@ numbered (not-above-before _ _ _) = (lit≤ tt, lit≤ tt)
 numbered (no-first-event _ _ _) = (lit≤ tt, lit≤ tt)
 numbered (wrong-watched _ _ _) = (lit≤ tt, lit≤ tt)
 numbered (left-over _) = (lit≤ tt, lit≤ tt)
-numbered (on-loop _ _ _) = (lit≤ tt, lit≤ tt)
+numbered (on-loop _ _) = (lit≤ tt, lit≤ tt)
 
 -- a finished run of no record, or a refusal from 2 to 18 that wrote none
 pub answers : (E : Edition) → 0 < E .size → (s : List ℕ) → (checked E s ≡ finished 0) ⊎ ((n : ℕ) × (p : ℕ) × (2 ≤ n) × (n ≤ 18) × (checked E s ≡ refused n p 0))

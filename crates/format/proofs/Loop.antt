@@ -1,27 +1,21 @@
 -- A check gives refusal 18 exactly where no refusal of the bytes is met and some node is on a zero-delay loop, and names the least such node.
--- The bytes' rows have other numbers, and one of them sees to it that every output is a node. Assumes nothing.
+-- The bytes' rows have other numbers. Assumes nothing.
 use lib.Dec.{lit<}
 use mathlib.Core.Bool.{true}
-use mathlib.Core.List.{List, [], _++_, List·Memᴰ·head, List·Memᴰ·tail as later}
+use mathlib.Core.List.{List, [], _++_}
 use mathlib.Core.Logic.{_↔_, ⊎-elim}
-use mathlib.Core.Path.{_≡_, refl, sym, _∙_, subst₂}
-use native.Mathlib.Nat.{lt-of-not-le}
+use mathlib.Core.Path.{_≡_, sym, _∙_}
 use native.Mathlib.Omega.{arith}
 use Prim.Native.Nat.{ℕ, _<_}
 use Rattle.sheet.specs.declared.Edition.{Edition}
 use Rattle.sheet.specs.Limits.{leastNodes, mostNodes, mostModules, mostEvents, mostWatched}
-use Rattle.sheet.specs.Layout.{nodesCounted, modulesPlace, modulesCounted, modulePlace, moduleAt, drivePlace, eventsCounted, watchedPlace, watchedCounted, sheetOf}
+use Rattle.sheet.specs.Layout.{nodesCounted, modulesPlace, modulesCounted, drivePlace, eventsCounted, watchedPlace, watchedCounted, sheetOf}
 use Rattle.sheet.specs.Outcome.{finished, refused}
-use Rattle.sheet.specs.Loop.{LeastOnLoop, Outputs}
-use Rattle.sheet.specs.Refusal.{Row, _at_when_, miswired, countRows, nodeRows, moduleRows, startRows, eventRows, firstEventRows, watchedRows, loopsSection, bytesRows, rows, first, checked}
-use Rattle.sheet.proofs.Tests.{fails}
-use Rattle.sheet.proofs.Parts.{node-count, module-count, module-of}
-use Rattle.sheet.proofs.Rows.{All, all-nil, _and_, _then_, all-each, first-clear, first-answers, passed-append, refused-append}
+use Rattle.sheet.specs.Loop.{LeastOnLoop}
+use Rattle.sheet.specs.Refusal.{Row, _at_when_, countRows, nodeRows, moduleRows, startRows, eventRows, firstEventRows, watchedRows, loopsSection, bytesRows, rows, first, checked}
+use Rattle.sheet.proofs.Rows.{All, all-nil, _and_, _then_, all-each, first-answers, passed-append, refused-append}
 use Rattle.format.proofs.LeastOnLoop.{least-on-loop}
-use Rattle.format.specs.Condition.{output-no-node}
 use Rattle.format.proofs.FirstMet.{first-met, met-stands}
-use Rattle.format.proofs.Sections.{in-module}
-use Rattle.format.proofs.Condition.{tells-miswired}
 
 abbrev Early : Row → Type 0
 Early r = r .number < 18
@@ -44,23 +38,15 @@ module _ (E : Edition) (s : List ℕ) where
       then (count-early (watchedPlace E s) 0 mostWatched then all-each (watchedCounted E s) (watchedRows E s) (λ k h. lit< tt and lit< tt and end))
       then (lit< tt and end)
 
-  outputs : first (bytesRows E s) ≡ finished 0 → Outputs (sheetOf E s)
-  outputs passed m l =
-      let h = rw (module-count E s) at l in
-      let wired = miswired (nodesCounted s) (moduleAt E s m) in
-      let row = first-clear (bytesRows E s) .0 passed (7 at modulePlace E s m when wired) (in-module E s m h (later (later (later (List·Memᴰ·head refl))))) in
-      subst₂ (λ r n. r .output < n) (sym (module-of E s m h)) (sym (node-count E s))
-      (lt-of-not-le (λ c. fails wired (tells-miswired (nodesCounted s) (moduleAt E s m)) .0 row (output-no-node c)))
-
   pub loop-refused : (v : ℕ) → (checked E s ≡ refused 18 v 0) ↔ ((first (bytesRows E s) ≡ finished 0) × LeastOnLoop (sheetOf E s) v)
   unfolding checked rows
-  loop-refused v = (λ e. ⊎-elim (after e) (λ h. absurd (before (h .0) (h .1) e (h .2))) (first-answers (bytesRows E s)), λ h. passed-append (bytesRows E s) loops (h .0) ∙ least-on-loop (sheetOf E s) (outputs (h .0)) v .1 (h .1))
+  loop-refused v = (λ e. ⊎-elim (after e) (λ h. absurd (before (h .0) (h .1) e (h .2))) (first-answers (bytesRows E s)), λ h. passed-append (bytesRows E s) loops (h .0) ∙ least-on-loop (sheetOf E s) v .1 (h .1))
     where
       loops : List Row
       loops = loopsSection (sheetOf E s)
 
       after : first (bytesRows E s ++ loops) ≡ refused 18 v 0 → first (bytesRows E s) ≡ finished 0 → (first (bytesRows E s) ≡ finished 0) × LeastOnLoop (sheetOf E s) v
-      after e c = (c, least-on-loop (sheetOf E s) (outputs c) v .0 (sym (passed-append (bytesRows E s) loops c) ∙ e))
+      after e c = (c, least-on-loop (sheetOf E s) v .0 (sym (passed-append (bytesRows E s) loops c) ∙ e))
 
       before : (n p : ℕ) → first (bytesRows E s ++ loops) ≡ refused 18 v 0 → first (bytesRows E s) ≡ refused n p 0 → ⊥
       before n p e r =

@@ -12,7 +12,7 @@ use Rattle.sheet.specs.Limits.{inputByte, lastValue, longestDelay, lastTick}
 use Rattle.sheet.specs.Sheet.{nodeCount}
 use Rattle.sheet.specs.Layout.{nodesCounted, nodeAt, modulesCounted, modulePlace, moduleRecord, moduleAt, eventsCounted, eventPlace, eventRecord, eventAt, watchedCounted, watchPlace, watchedAt, sheetEnd, sheetOf}
 use Rattle.sheet.specs.Wiring.{isInput}
-use Rattle.sheet.specs.Loop.{onLoop}
+use Rattle.sheet.specs.Loop.{OnLoop}
 use Rattle.sheet.specs.Refusal.{Row, _at_when_, outside, greatestParameter, key, countRows, nodeRows, moduleRows, startRows, eventRows, firstEventRows, watchedRows, leftOverRows, loopRows, bytesRows, rows}
 use Rattle.format.specs.Accepted.{Driven, Input, DrivenAtStart}
 use Rattle.format.specs.Condition.{Count, of-nodes, of-modules, of-drive, of-watched, Part, a-count, a-node, a-module, an-event, a-watched, Miswired, NotAbove, Condition, ends-inside, outside-range, byte-above, kind-above, parameter-not-allowed, wrong-wiring, delay-above, already-driven, driven-or-not, tick-above, not-an-input, value-above, not-above-before, no-first-event, wrong-watched, left-over, on-loop}
@@ -21,6 +21,7 @@ use Rattle.sheet.proofs.Parts.{node-count}
 use Rattle.sheet.proofs.Rows.{All, all-nil, _and_, _then_, all-each}
 use Rattle.format.proofs.Sections.{in-count, in-node, in-module, in-event, in-watched-node, in-start, in-first-event, in-left-over, in-bytes, in-loop}
 use Rattle.format.proofs.Condition.{tells-input, tells-miswired, tells-earlier, tells-start, tells-event, tells-first-event, tells-wrong-watched}
+use Rattle.format.proofs.Chains.{loop-node, loop-test}
 use Rattle.format.proofs.Places.{same-size, same-range, same-module, same-event, same-watched}
 
 -- the output is driven by an earlier record
@@ -53,7 +54,7 @@ Says E s n p =
     ∷ (Input (sheetOf E s) p × (DrivenAtStart (sheetOf E s) p → ⊥))
     ∷ ((k : ℕ) × (watchPlace E s k ≡ p) × WrongWatched E s k)
     ∷ (sheetEnd E s < length s)
-    ∷ (onLoop (sheetOf E s) p ≡ true)
+    ∷ OnLoop (sheetOf E s) p
     ∷ [])
     n
     ⊥
@@ -75,7 +76,7 @@ says (not-above-before e h c) = (e, refl, c)
 says (no-first-event v i c) = (i, c)
 says (wrong-watched k h c) = (k, refl, c)
 says (left-over c) = c
-says (on-loop v h c) = c
+says (on-loop v c) = c
 
 here : {r : Row} {xs : List Row} → List·Memᴰ r (r ∷ xs)
 here = List·Memᴰ·head refl
@@ -151,7 +152,7 @@ module _ (E : Edition) (some : 0 < E .size) (s : List ℕ) where
   left-over-told = by-order (sheetEnd E s) (length s) left-over says and all-nil (Told E s)
 
   loop-told : (v : ℕ) → v < nodeCount (sheetOf E s) → All (Told E s) (loopRows (sheetOf E s) v)
-  loop-told v h = (on-loop v h, says) and all-nil (Told E s)
+  loop-told v h = tells-as (loop-test (sheetOf E s) v h) (on-loop v, says) and all-nil (Told E s)
 
   -- front to back
   rows-told : All (Told E s) (rows E s)
@@ -197,7 +198,7 @@ module _ (E : Edition) (some : 0 < E .size) (s : List ℕ) where
   stands (no-first-event v i c) = of-bytes (in-first-event E s v (rw (node-count E s) at (i .node)) here)
   stands (wrong-watched k h c) = of-bytes (in-watched-node E s k h (later here))
   stands (left-over c) = of-bytes (in-left-over E s here)
-  stands (on-loop v h c) = (_, in-loop E s v h here)
+  stands (on-loop v c) = (_, in-loop E s v (loop-node (sheetOf E s) c) here)
 
 -- each row of the table: its test passes exactly when its condition is met
 pub row-tells : (E : Edition) → 0 < E .size → (s : List ℕ) (r : Row) → List·Memᴰ r (rows E s) → Tells (r .met) (Condition E s (r .number) (r .place))

@@ -1,5 +1,5 @@
 -- Document 01, "Where each refusal is met": the table of refusals 2 to 18 as propositions.
-use mathlib.Core.Bool.{Bool, true}
+use mathlib.Core.Bool.{Bool}
 use mathlib.Core.List.{List, _∷_, _++_, List·Memᴰ}
 use mathlib.Core.Logic.{_⊎_}
 use mathlib.Core.Path.{_≡_}
@@ -9,10 +9,9 @@ use Rattle.sheet.specs.declared.Edition.{Edition}
 use Rattle.sheet.specs.declared.Module.{Module}
 use Rattle.sheet.specs.Limits.{leastNodes, mostNodes, mostModules, mostEvents, mostWatched, inputByte, lastValue, longestDelay, lastTick}
 use Rattle.sheet.specs.Bytes.{wordAt}
-use Rattle.sheet.specs.Sheet.{nodeCount}
 use Rattle.sheet.specs.Layout.{countSize, eventSize, nodesCounted, nodePlace, nodeAt, modulesPlace, modulesCounted, modulePlace, moduleAt, drivePlace, eventsCounted, eventPlace, eventAt, watchedPlace, watchedCounted, watchPlace, watchedAt, sheetEnd, sheetOf}
 use Rattle.sheet.specs.Wiring.{usedInputs, unusedInputs}
-use Rattle.sheet.specs.Loop.{onLoop}
+use Rattle.sheet.specs.Loop.{OnLoop}
 use Rattle.sheet.specs.Refusal.{Row, _at_when_, greatestParameter, key, rows}
 use Rattle.format.specs.Accepted.{Driven, Input, DrivenAtStart}
 
@@ -68,7 +67,7 @@ pub data Condition (e : Edition) (s : List ℕ) : ℕ → ℕ → Type 0 where
   wrong-watched : (k : ℕ) → k < watchedCounted e s → nodesCounted s ≤ watchedAt e s k ⊎ NotAbove (watchedAt e s) k → Condition e s 16 (watchPlace e s k)
   -- after the watched: bytes left over; then a zero-delay loop
   left-over : sheetEnd e s < length s → Condition e s 17 (sheetEnd e s)
-  on-loop : (v : ℕ) → v < nodeCount (sheetOf e s) → onLoop (sheetOf e s) v ≡ true → Condition e s 18 v
+  on-loop : (v : ℕ) → OnLoop (sheetOf e s) v → Condition e s 18 v
 
 -- A row of the table, front to back: the condition of its number is met at its place, and none is of a row before it.
 pub record FirstCondition (e : Edition) (s : List ℕ) (number place : ℕ) : Type 0 where

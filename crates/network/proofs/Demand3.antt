@@ -1,25 +1,25 @@
 -- The mission, demand 3, whole: the cells of P, read through the permutation, satisfy N, so that they are N's; the rest is counted and sorted from the
 -- same cells. Beside it, every sheet that a check accepts has a valid order. Assumes nothing.
-use lib.ListN.{getD}
+use lib.ListN.{getD, length}
 use mathlib.Core.Bool.{false}
 use mathlib.Core.List.{List, List·Memᴰ}
 use mathlib.Core.Path.{ap, refl, subst, sym, _≡_, _∙_}
 use native.Mathlib.Omega.{arith}
 use Prim.Native.Nat.{ℕ, _<_, _≤_}
 use Rattle.sheet.specs.Layout.{sheetOf}
-use Rattle.sheet.specs.Outcome.{finished}
+use Rattle.sheet.specs.Outcome.{Outcome, finished}
 use Rattle.sheet.specs.Refusal.{checked}
 use Rattle.sheet.specs.Sheet.{Sheet, moduleCount, moduleOf, nodeCount}
 use Rattle.sheet.specs.WorkingOrder.{workingOrder}
 use Rattle.sheet.specs.declared.Edition.{Edition}
 use Rattle.format.specs.Accepted.{Accepted, AcceptedIn, Known}
 use Rattle.format.specs.Encode.{Bytes}
-use Rattle.network.specs.Demand3.{RunsToHorizon, Same, ValidOrders, workedFrom}
+use Rattle.network.specs.Demand3.{RunsToHorizon, SameRenumbered, ValidOrders, workedFrom}
 use Rattle.network.specs.Listing.{listing}
 use Rattle.network.specs.Order.{Listed, ValidOrder}
 use Rattle.network.specs.Renumbering.{Permutation, renumbered, renumberedBytes, renumberedListing}
-use Rattle.network.specs.Run.{horizonOutside, ran, writtenOf}
-use Rattle.network.specs.RunConditions.{whole}
+use Rattle.network.specs.Buffer.{bufferAfter}
+use Rattle.network.specs.Run.{RunLeaves, horizonOutside, ran, writtenOf}
 use Rattle.network.specs.Timeline.{Cells, at}
 use Rattle.network.specs.Working.{worked}
 use Rattle.format.proofs.Accepted.{accepted, conversely}
@@ -34,7 +34,7 @@ use Rattle.network.proofs.PullBack.{pull-back}
 use Rattle.network.proofs.Renumbered.{module-count-renumbered, module-of-renumbered}
 use Rattle.network.proofs.RenumberedAccepted.{accepted-renumbered}
 use Rattle.network.proofs.RenumberedListing.{Rewatched, renumbered-length, renumbered-listing}
-use Rattle.network.proofs.Runs.{accepted-run, in-range, only, ran-sheet, ran-worked, satisfied}
+use Rattle.network.proofs.Runs.{accepted-run, in-range, only, ran-satisfied, ran-sheet, satisfied}
 use Rattle.network.proofs.Wired.{wired}
 use Rattle.network.proofs.WorkingOrder.{working-order}
 
@@ -118,7 +118,7 @@ module _ {E : Edition} (known : Known E) (s : List ℕ) (ok : AcceptedIn E s) (�
 pub demand-3 : {E : Edition} → Known E → (s : List ℕ) (horizon bytes : ℕ) → RunsToHorizon E s horizon bytes
     → (π : Permutation (nodeCount (sheetOf E s))) (order : List ℕ) → Listed (moduleCount (sheetOf E s)) order
     → (ordersN ordersP : ℕ → List ℕ) → ValidOrders (sheetOf E s) horizon ordersN → ValidOrders (sheetOf E (renumberedBytes E s π order)) horizon ordersP
-    → Same E s (renumberedBytes E s π order) (π .to) horizon bytes (workedFrom E s horizon ordersN) (workedFrom E (renumberedBytes E s π order) horizon ordersP)
+    → SameRenumbered E s (renumberedBytes E s π order) (π .to) horizon bytes (workedFrom E s horizon ordersN) (workedFrom E (renumberedBytes E s π order) horizon ordersP)
 demand-3 {E} known s horizon bytes runs π order each-once ordersN ordersP valid-N valid-P =
     record {
       same-cells = both .cells;
@@ -162,10 +162,10 @@ demand-3 {E} known s horizon bytes runs π order each-once ordersN ordersP valid
         (sym (sheet-renumbered known s ok π order each-once)) (λ orders. agree N (ok .sheet) π order each-once horizon bytes ordersN orders valid-N) ordersP valid-P
 
     run-of-N : ran E s horizon bytes ≡ writtenOf N n horizon bytes
-    run-of-N = ran-sheet E s horizon bytes range (accepted-run E s horizon bytes runs) ∙ ran-worked N (ok .sheet) horizon ordersN valid-N bytes
+    run-of-N = ran-sheet E s horizon bytes range (accepted-run E s horizon bytes runs) ∙ ran-satisfied N (ok .sheet) horizon n (satisfied N (ok .sheet) horizon ordersN valid-N) bytes
 
     run-of-P : ran E p′ horizon bytes ≡ writtenOf P′ q horizon bytes
-    run-of-P = ran-sheet E p′ horizon bytes range (conversely E known p′ ok-P) ∙ ran-worked P′ (ok-P .sheet) horizon ordersP valid-P bytes
+    run-of-P = ran-sheet E p′ horizon bytes range (conversely E known p′ ok-P) ∙ ran-satisfied P′ (ok-P .sheet) horizon q (satisfied P′ (ok-P .sheet) horizon ordersP valid-P) bytes
 
     finishes : writtenOf N n horizon bytes .answer ≡ finished (runs .count)
     finishes = ap (λ w. w .answer) (sym run-of-N) ∙ runs .answer
@@ -179,3 +179,34 @@ demand-3 {E} known s horizon bytes runs π order each-once ordersN ordersP valid
 -- such orders exist: the working order is one
 pub valid-order-exists : {E : Edition} → Known E → (s : List ℕ) → checked E s ≡ finished 0 → (order : List ℕ) × ValidOrder (sheetOf E s) order
 valid-order-exists {E} known s c = (workingOrder (sheetOf E s), working-order (sheetOf E s) (accepted E known s c .sheet))
+
+-- The same of two runs by what each leaves, as `run` promises it: P's answer is N's, and P's buffer has N's records renumbered and sorted again.
+pub renumbered-run : {E : Edition} → Known E → (s : List ℕ) (horizon count : ℕ)
+    → (π : Permutation (nodeCount (sheetOf E s))) (order : List ℕ) → Listed (moduleCount (sheetOf E s)) order
+    → (bufferN bufferP afterN afterP : List ℕ) (answerN answerP : Outcome) → length bufferP ≡ length bufferN
+    → RunLeaves E s horizon bufferN answerN afterN → RunLeaves E (renumberedBytes E s π order) horizon bufferP answerP afterP → answerN ≡ finished count
+    → (answerP ≡ answerN) × (afterP ≡ bufferAfter (renumberedListing (π .to) (ran E s horizon (length bufferN) .records)) bufferP)
+renumbered-run {E} known s horizon count π order each-once bufferN bufferP afterN afterP answerN answerP room N P done = (
+  P .answered ∙ ap (λ b. ran E p′ horizon b .answer) room ∙ same .same-answer ∙ sym (N .answered),
+  P .left ∙ ap (λ b. bufferAfter (ran E p′ horizon b .records) bufferP) room ∙ ap (λ records. bufferAfter records bufferP) (same .renumbered-listing),
+)
+  where
+    p′ : List ℕ
+    p′ = renumberedBytes E s π order
+
+    bytes : ℕ
+    bytes = length bufferN
+
+    runs : RunsToHorizon E s horizon bytes
+    runs = record { count = count; answer = sym (N .answered) ∙ done }
+
+    ok : AcceptedIn E s
+    ok = accepted E known s (accepted-run E s horizon bytes runs)
+
+    ok-P : AcceptedIn E p′
+    ok-P = accepted-bytes known s ok π order each-once
+
+    same : SameRenumbered E s p′ (π .to) horizon bytes (workedFrom E s horizon (λ t. workingOrder (sheetOf E s))) (workedFrom E p′ horizon (λ t. workingOrder (sheetOf E p′)))
+    same =
+        demand-3 known s horizon bytes runs π order each-once (λ t. workingOrder (sheetOf E s)) (λ t. workingOrder (sheetOf E p′))
+        (λ t h. working-order (sheetOf E s) (ok .sheet)) (λ t h. working-order (sheetOf E p′) (ok-P .sheet))

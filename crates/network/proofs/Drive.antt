@@ -1,10 +1,9 @@
 -- An input's cell is the value of its latest event with a tick at most t, and X where there is none. Assumes nothing.
 use lib.Dec.{eqb}
-use borrow.Author.Tests.{ne-eqb}
 use mathlib.Core.Bool.{Bool, true, false, _&&_}
-use mathlib.Core.List.{List, [], _∷_, _++_, List·Memᴰ, List·Memᴰ·head, List·Memᴰ·tail, List·Memᴰ·not-nil, List·Memᴰ·cases-cons}
+use mathlib.Core.List.{List, [], _∷_, List·Memᴰ, List·Memᴰ·head, List·Memᴰ·tail, List·Memᴰ·not-nil, List·Memᴰ·cases-cons}
 use mathlib.Core.Logic.{_⊎_, inl, inr}
-use mathlib.Core.Path.{_≡_, refl, sym, ap, _∙_, subst}
+use mathlib.Core.Path.{_≡_, refl, sym, _∙_, subst}
 use native.Mathlib.Decide.{ℕ-discrete}
 use native.Mathlib.Omega.{arith}
 use Prim.Native.Nat.{ℕ, zero, suc, _≤_, _<_}
@@ -91,15 +90,3 @@ module _ (S : Sheet) (v t : ℕ) where
 
   pub undriven-cell : ((j : ℕ) → j < eventCount S → eventOf S j .node ≡ v → eventOf S j .tick ≤ t → ⊥) → driveCell (S .drive) v t ≡ unknown
   undriven-cell none = never-given (S .drive) v t (members-all (λ e. e .node ≡ v → e .tick ≤ t → ⊥) (S .drive) noEvent none)
-
--- An event has no effect on cells before its tick: so events at or past the horizon have none.
-module _ (earlier later : List Event) (e : Event) (v : ℕ) where
-  passed-over : (t before : ℕ) (es : List Event) → t < e .tick → given (es ++ e ∷ later) v t before ≡ given (es ++ later) v t before
-  unfolding given
-  passed-over t before [] h = rw (ne-eqb (e .tick) t (λ i. omega (arith, h, i)))
-  passed-over t before (f ∷ fs) h = ap (λ x. if eqb (f .tick) t && eqb (f .node) v then f .value else x) (passed-over t before fs h)
-
-  pub no-effect : (t : ℕ) → t < e .tick → driveCell (earlier ++ e ∷ later) v t ≡ driveCell (earlier ++ later) v t
-  unfolding driveCell
-  no-effect zero h = passed-over zero unknown earlier h
-  no-effect (suc t) h = passed-over (suc t) (driveCell (earlier ++ e ∷ later) v t) earlier h ∙ ap (given (earlier ++ later) v (suc t)) (no-effect t (omega arith))

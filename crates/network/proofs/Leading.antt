@@ -23,5 +23,5 @@ module _ (S : Sheet) where
   used-leads m u l d i =
       kept S (nodeCount S) u (outputOf S m) (tells-leads S u (outputOf S m) .1 (m, l, record { at-once = d; output = refl; used = i }))
 
-  pub not-itself : Accepted S → (v : ℕ) → leadsOver S (nodeCount S) v v ≡ false
-  not-itself acc v = fails (leadsOver S (nodeCount S) v v) (loop-test S (λ m l. acc .sound-modules m l .output) v) .1 (acc .no-loop v)
+  pub not-itself : Accepted S → (v : ℕ) → v < nodeCount S → leadsOver S (nodeCount S) v v ≡ false
+  not-itself acc v l = fails (leadsOver S (nodeCount S) v v) (loop-test S v l) .1 (acc .no-loop v)

@@ -36,6 +36,8 @@ pub mod Memory
 pub mod Drive
 pub mod Values
 pub mod Runs
+pub mod Demand2
+pub mod LaterEvents
 pub mod Demand3
 pub mod Outcome
 pub mod RunConditions

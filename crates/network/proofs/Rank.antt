@@ -48,5 +48,5 @@ module _ (S : Sheet) where
       leads = used-leads S b u h d i
 
       at : (z : Bool) → (if z then suc (leadingTo S (nodeCount S) u) else 0) < suc (count (nodeCount S) (leadersOf S v))
-      at true = rw leading-count (suc-le-suc (count-more (leadersOf S u) (leadersOf S v) (λ w t. leads-on S w u v below t leads) (nodeCount S) u below (not-itself S acc u) leads))
+      at true = rw leading-count (suc-le-suc (count-more (leadersOf S u) (leadersOf S v) (λ w t. leads-on S w u v below t leads) (nodeCount S) u below (not-itself S acc u below) leads))
       at false = omega arith

@@ -33,6 +33,7 @@ module _ (S : Sheet) (acc : Accepted S) (π : Permutation (nodeCount S)) (order 
         to = each-once .known b l;
         from-at-once = sym (ap (λ m. m .delay) x) ∙ f .from-at-once;
         to-at-once = sym (ap (λ m. m .delay) y) ∙ f .to-at-once;
+        node = acc .sound-modules _ (each-once .known a h) .output;
         used =
             Memᴰ·cast
             (to-once π _ (v .0) (acc .sound-modules _ (each-once .known a h) .output) (acc .sound-modules _ (each-once .known b l) .used (v .0) (v .1)) (sym (v .2)))

@@ -1,4 +1,5 @@
--- A run writes what its condition says, and its condition is met: each refusal of a run is given under its condition and under no other. Assumes nothing.
+-- A run writes what its condition says, and its condition is met: each answer of a run is given under its condition and under no other, over the cells of
+-- any set of timelines that satisfies the sheet. Assumes nothing.
 use lib.ListN.{length}
 use borrow.Author.Tests.{eq-eqb, ne-eqb, lt-ltb, le-ltb}
 use mathlib.Core.Bool.{false}
@@ -15,31 +16,33 @@ use Rattle.sheet.specs.Outcome.{finished}
 use Rattle.sheet.specs.Refusal.{checked}
 use Rattle.sheet.specs.Sheet.{Sheet}
 use Rattle.sheet.specs.declared.Edition.{Edition}
+use Rattle.format.specs.Accepted.{Known}
+use Rattle.format.proofs.Accepted.{accepted}
 use Rattle.network.specs.Buffer.{room}
 use Rattle.network.specs.Listing.{listing, pending}
-use Rattle.network.specs.Run.{Written, cellsOf, ran, horizonOutside, ranSheet}
-use Rattle.network.specs.RunConditions.{Passed, Begins, RunCondition, horizon-outside, sheet-refused, no-room, crowded, whole}
+use Rattle.network.specs.Run.{Written, ran, horizonOutside, writtenOf}
+use Rattle.network.specs.RunConditions.{Passes, Begins, RunCondition, horizon-outside, sheet-refused, no-room, crowded, whole}
+use Rattle.network.specs.Satisfied.{Satisfied}
 use Rattle.network.specs.Timeline.{Cells}
 use Rattle.level.proofs.Computed.{below}
 use Rattle.sheet.proofs.Rows.{passed}
 use Rattle.network.proofs.Fits.{fits}
-use Rattle.network.proofs.Runs.{checks, ran-outside, ran-refused, ran-sheet}
+use Rattle.network.proofs.Runs.{checks, ran-outside, ran-refused, ran-satisfied, ran-sheet}
 use Rattle.network.proofs.Outcome as outcome
 
-module _ (E : Edition) (s : List ℕ) (horizon bytes : ℕ) where
+module _ {E : Edition} (known : Known E) (s : List ℕ) (horizon bytes : ℕ) (cells : Cells) (satisfied : Begins E s horizon → Satisfied (sheetOf E s) horizon cells) where
   abbrev S : Sheet
   S = sheetOf E s
-
-  abbrev cells : Cells
-  cells = cellsOf S horizon
 
   in-range : 0 < horizon → horizon ≤ greatestHorizon → horizonOutside horizon ≡ false
   in-range some few = rw (ne-eqb horizon 0 (λ e. omega (arith, some, e)), le-ltb greatestHorizon horizon few)
 
-  begun : Begins E s horizon → ran E s horizon bytes ≡ ranSheet S horizon bytes
-  begun b = ran-sheet E s horizon bytes (in-range (b .some-tick) (b .few-ticks)) (b .accepted)
+  begun : Begins E s horizon → ran E s horizon bytes ≡ writtenOf S cells horizon bytes
+  begun b =
+      ran-sheet E s horizon bytes (in-range (b .some-tick) (b .few-ticks)) (b .accepted)
+      ∙ ran-satisfied S (accepted E known s (b .accepted) .sheet) horizon cells (satisfied b) bytes
 
-  writes : (w : Written) → RunCondition E s horizon bytes w → ran E s horizon bytes ≡ w
+  writes : (w : Written) → RunCondition E s cells horizon bytes w → ran E s horizon bytes ≡ w
   writes w (horizon-outside (inl e)) = ran-outside E s horizon bytes (rw (eq-eqb horizon 0 e))
   writes w (horizon-outside (inr h)) = ran-outside E s horizon bytes (rw (ne-eqb horizon 0 (λ e. omega (arith, h, e)), lt-ltb greatestHorizon horizon h))
   writes w (sheet-refused some few r) = ran-refused E s horizon bytes (in-range some few) r
@@ -47,12 +50,12 @@ module _ (E : Edition) (s : List ℕ) (horizon bytes : ℕ) where
   writes w (crowded t f fits over) = begun (f .begins) ∙ outcome.crowded S cells horizon bytes t (f .below) (f .passed) fits over
   writes w (whole b all) = begun b ∙ outcome.whole S cells horizon bytes all
 
-  abbrev Passes : ℕ → Type 0
-  Passes = Passed S cells horizon bytes
+  abbrev Passed-here : ℕ → Type 0
+  Passed-here = Passes E s cells horizon bytes
 
   -- a tick passes, or finds no room, or leaves too many changes pending
   data Tried (t : ℕ) : Type 0 where
-    passes : Passes t → Tried t
+    passes : Passed-here t → Tried t
     over : room bytes < length (listing S cells (suc t)) → Tried t
     many : length (listing S cells (suc t)) ≤ room bytes → pendingLimit < length (pending S cells horizon t) → Tried t
 
@@ -65,33 +68,33 @@ module _ (E : Edition) (s : List ℕ) (horizon bytes : ℕ) where
       by-room (no d) q = over (omega arith)
 
   -- the ticks below a bound pass, or one of them is the first that does not
-  ticks : Begins E s horizon → (n : ℕ) → n ≤ horizon → ((t : ℕ) → t < n → Passes t) ⊎ ((w : Written) × RunCondition E s horizon bytes w)
+  ticks : Begins E s horizon → (n : ℕ) → n ≤ horizon → ((t : ℕ) → t < n → Passed-here t) ⊎ ((w : Written) × RunCondition E s cells horizon bytes w)
   ticks b zero h = inl (λ t l. absurd (not-suc-le-zero l))
   ticks b (suc n) h = ⊎-elim (λ before. next before (try n)) inr (ticks b n (omega arith))
     where
-      next : ((t : ℕ) → t < n → Passes t) → Tried n → ((t : ℕ) → t < suc n → Passes t) ⊎ ((w : Written) × RunCondition E s horizon bytes w)
+      next : ((t : ℕ) → t < n → Passed-here t) → Tried n → ((t : ℕ) → t < suc n → Passed-here t) ⊎ ((w : Written) × RunCondition E s cells horizon bytes w)
       next before (passes p) = inl (λ t l. at (ℕ-discrete t n) l)
         where
-          at : {t : ℕ} → Dec (t ≡ n) → t < suc n → Passes t
+          at : {t : ℕ} → Dec (t ≡ n) → t < suc n → Passed-here t
           at (yes e) l = rw e p
           at {t} (no d) l = before t (omega arith)
       next before (over r) = inr (_, no-room n (record { begins = b; below = h; passed = before }) r)
       next before (many r p) = inr (_, crowded n (record { begins = b; below = h; passed = before }) r p)
 
   -- some condition is met
-  some : (w : Written) × RunCondition E s horizon bytes w
+  some : (w : Written) × RunCondition E s cells horizon bytes w
   some = by-horizon (ℕ-discrete horizon 0) (decLe horizon greatestHorizon)
     where
-      by-horizon : Dec (horizon ≡ 0) → Dec (horizon ≤ greatestHorizon) → (w : Written) × RunCondition E s horizon bytes w
+      by-horizon : Dec (horizon ≡ 0) → Dec (horizon ≤ greatestHorizon) → (w : Written) × RunCondition E s cells horizon bytes w
       by-horizon (yes e) q = (_, horizon-outside (inl e))
       by-horizon (no d) (no f) = (_, horizon-outside (inr (omega arith)))
-      by-horizon (no d) (yes f) = ⊎-elim accepted (λ r. (_, sheet-refused (omega arith) f (r .2))) (checks E s)
+      by-horizon (no d) (yes f) = ⊎-elim begins (λ r. (_, sheet-refused (omega arith) f (r .2))) (checks E s)
         where
-          accepted : checked E s ≡ finished 0 → (w : Written) × RunCondition E s horizon bytes w
-          accepted e =
+          begins : checked E s ≡ finished 0 → (w : Written) × RunCondition E s cells horizon bytes w
+          begins e =
               let b : Begins E s horizon = record { some-tick = omega arith; few-ticks = f; accepted = e } in
               ⊎-elim (λ all. (_, whole b all)) (λ w. w) (ticks b horizon (omega arith))
 
   -- The answer and the records of a run are those whose condition is met, and no other condition is.
-  pub run-conditions : (w : Written) → (ran E s horizon bytes ≡ w) ↔ RunCondition E s horizon bytes w
-  run-conditions w = (λ e. subst (RunCondition E s horizon bytes) (sym (writes (some .0) (some .1)) ∙ e) (some .1), writes w)
+  pub run-conditions : (w : Written) → (ran E s horizon bytes ≡ w) ↔ RunCondition E s cells horizon bytes w
+  run-conditions w = (λ e. subst (RunCondition E s cells horizon bytes) (sym (writes (some .0) (some .1)) ∙ e) (some .1), writes w)

@@ -1,5 +1,5 @@
--- A run over an accepted sheet, its horizon in range, is what the cells give that are worked in any valid orders; these cells satisfy the sheet, and no
--- others do. A sheet that runs to its horizon is such a one. Assumes nothing.
+-- A run over an accepted sheet, its horizon in range, is what any set of timelines gives that satisfies the sheet. Cells worked in valid orders satisfy
+-- it, and no others do. A sheet that runs to its horizon is such a one. Assumes nothing.
 use mathlib.Core.Bool.{Bool, false, true}
 use mathlib.Core.List.{List, []}
 use mathlib.Core.Logic.{⊎-elim, _⊎_}
@@ -16,6 +16,7 @@ use Rattle.format.specs.Accepted.{Accepted}
 use Rattle.network.specs.Demand3.{Only, RunsToHorizon, ValidOrders}
 use Rattle.network.specs.Run.{afterCheck, cellsOf, horizonOutside, ran, ranSheet, writtenOf, wrote}
 use Rattle.network.specs.Satisfied.{Satisfied}
+use Rattle.network.specs.Timeline.{Cells}
 use Rattle.network.specs.Working.{worked}
 use Rattle.sheet.proofs.Rows.{finished≢refused, first-answers}
 use Rattle.network.proofs.Answers.{written-local}
@@ -68,7 +69,16 @@ module _ (S : Sheet) (acc : Accepted S) (horizon : ℕ) (orders : ℕ → List �
   pub only : Only S horizon (worked S orders horizon)
   only = uniqueness S (wired S acc) orders horizon valid
 
-  pub ran-worked : (bytes : ℕ) → ranSheet S horizon bytes ≡ writtenOf S (worked S orders horizon) horizon bytes
-  ran-worked =
-      written-local S (wired S acc) (watched-nodes S acc) (cellsOf S horizon) (worked S orders horizon) horizon
-      (only (cellsOf S horizon) (existence S (wired S acc) (λ t. workingOrder S) horizon (λ t h. working-order S acc)))
+module _ (S : Sheet) (acc : Accepted S) (horizon : ℕ) where
+  in-working-order : ValidOrders S horizon (λ t. workingOrder S)
+  in-working-order t h = working-order S acc
+
+  -- the sheet's own cells are a set of timelines that satisfies it
+  pub own-cells : Satisfied S horizon (cellsOf S horizon)
+  own-cells = satisfied S acc horizon (λ t. workingOrder S) in-working-order
+
+  -- a run is what any set of timelines gives that satisfies the sheet
+  pub ran-satisfied : (c : Cells) → Satisfied S horizon c → (bytes : ℕ) → ranSheet S horizon bytes ≡ writtenOf S c horizon bytes
+  ran-satisfied c sat =
+      written-local S (wired S acc) (watched-nodes S acc) (cellsOf S horizon) c horizon
+      (λ t v h l. sym (only S acc horizon (λ t. workingOrder S) in-working-order c sat t v h l))

@@ -1,12 +1,18 @@
--- The mission, demand 2, on the definitions: what stands in a listing.
+-- The mission, demand 2: what stands in a listing, and what a run answers and writes, both by a set of timelines.
 use lib.Dec.{T}
 use lib.ListN.{length, getD}
 use mathlib.Core.List.{List, List·Memᴰ}
+use mathlib.Core.Logic.{_↔_}
 use mathlib.Core.Path.{_≡_}
 use Prim.Native.Nat.{ℕ, _<_}
+use Rattle.sheet.specs.declared.Edition.{Edition}
+use Rattle.sheet.specs.Outcome.{finished}
 use Rattle.sheet.specs.Sheet.{Sheet}
+use Rattle.sheet.specs.Layout.{sheetOf}
 use Rattle.network.specs.Timeline.{Cells}
 use Rattle.network.specs.Listing.{Record, recordKey, changes}
+use Rattle.network.specs.Run.{Written, ran}
+use Rattle.network.specs.RunConditions.{RunCondition}
 
 -- A watched node's first value, or its change, at a tick below the horizon, with that cell's value.
 pub record Shown (S : Sheet) (c : Cells) (horizon : ℕ) (r : Record) : Type 0 where
@@ -20,3 +26,12 @@ pub record Lists (S : Sheet) (c : Cells) (horizon : ℕ) (records : List Record)
   pub shown : (r : Record) → List·Memᴰ r records → Shown S c horizon r
   pub all : (r : Record) → Shown S c horizon r → List·Memᴰ r records
   pub rise : (j k : ℕ) → j < k → k < length records → (d : Record) → recordKey (getD records j d) < recordKey (getD records k d)
+
+-- What a run of the bytes s answers and writes, by the cells c of a set of timelines that satisfies the sheet.
+pub record RunOf (e : Edition) (s : List ℕ) (horizon bytes : ℕ) (c : Cells) : Type 0 where
+  -- each answer, with the records that it leaves, is given under its condition and under no other
+  pub answers : (w : Written) → (ran e s horizon bytes ≡ w) ↔ RunCondition e s c horizon bytes w
+  -- a finished run has written exactly the first values and changes, and answers their number
+  pub lists : (count : ℕ) → ran e s horizon bytes .answer ≡ finished count
+      → Lists (sheetOf e s) c horizon (ran e s horizon bytes .records)
+  pub counts : (count : ℕ) → ran e s horizon bytes .answer ≡ finished count → count ≡ length (ran e s horizon bytes .records)

@@ -28,7 +28,7 @@ abbrev pub Only : Sheet → ℕ → Cells → Type 0
 Only S horizon c = (other : Cells) → Satisfied S horizon other → (t v : ℕ) → t < horizon → v < nodeCount S → other t v ≡ c t v
 
 -- N is the sheet of the bytes s, P that of the bytes p, renumbered by to; N's cells are n and P's are q.
-pub record Same (e : Edition) (s p : List ℕ) (to : ℕ → ℕ) (horizon bytes : ℕ) (n q : Cells) : Type 0 where
+pub record SameRenumbered (e : Edition) (s p : List ℕ) (to : ℕ → ℕ) (horizon bytes : ℕ) (n q : Cells) : Type 0 where
   -- every node has the same cells in both
   pub same-cells : (t v : ℕ) → t < horizon → v < nodeCount (sheetOf e s) → n t v ≡ q t (to v)
   -- the library's listing of each is exactly the one these cells give

@@ -11,9 +11,9 @@ use Rattle.sheet.specs.Sheet.{Sheet}
 use Rattle.sheet.specs.Layout.{sheetOf}
 use Rattle.sheet.specs.Refusal.{checked}
 use Rattle.network.specs.Timeline.{Cells}
-use Rattle.network.specs.Listing.{listing, pending}
+use Rattle.network.specs.Listing.{Record, listing, pending}
 use Rattle.network.specs.Buffer.{room}
-use Rattle.network.specs.Run.{Written, wrote, cellsOf}
+use Rattle.network.specs.Run.{Written, wrote}
 
 -- a tick passes: its records find room, and no more changes are pending after it than may be
 pub record Passed (S : Sheet) (c : Cells) (horizon bytes t : ℕ) : Type 0 where
@@ -26,25 +26,35 @@ pub record Begins (e : Edition) (s : List ℕ) (horizon : ℕ) : Type 0 where
   pub few-ticks : horizon ≤ greatestHorizon
   pub accepted : checked e s ≡ finished 0
 
--- the first tick that does not pass
-pub record FirstNotPassed (e : Edition) (s : List ℕ) (horizon bytes t : ℕ) : Type 0 where
-  pub begins : Begins e s horizon
-  pub below : t < horizon
-  pub passed : (u : ℕ) → u < t → Passed (sheetOf e s) (cellsOf (sheetOf e s) horizon) horizon bytes u
+-- over cells c: those of a set of timelines that satisfies the sheet
+module _ (e : Edition) (s : List ℕ) (c : Cells) (horizon bytes : ℕ) where
+  abbrev pub Passes : ℕ → Type 0
+  Passes = Passed (sheetOf e s) c horizon bytes
 
--- what a run has written, under the condition of its answer
-pub data RunCondition (e : Edition) (s : List ℕ) (horizon bytes : ℕ) : Written → Type 0 where
-  -- before reading: 1 horizon 0 or above 1,000,000
-  horizon-outside : (horizon ≡ 0) ⊎ (greatestHorizon < horizon) → RunCondition e s horizon bytes (wrote (refused 1 0 0) [])
-  -- then the sheet's refusals, 2 to 18
-  sheet-refused : {n p : ℕ} → 0 < horizon → horizon ≤ greatestHorizon → checked e s ≡ refused n p 0 → RunCondition e s horizon bytes (wrote (refused n p 0) [])
-  -- each tick, watched changes: 19 the buffer cannot take all records of this tick
-  no-room : (t : ℕ) → FirstNotPassed e s horizon bytes t → room bytes < length (listing (sheetOf e s) (cellsOf (sheetOf e s) horizon) (suc t))
-      → RunCondition e s horizon bytes (wrote (refused 19 t (length (listing (sheetOf e s) (cellsOf (sheetOf e s) horizon) t))) (listing (sheetOf e s) (cellsOf (sheetOf e s) horizon) t))
-  -- each tick, then: 20 more than 4,096 changes pending after it
-  crowded : (t : ℕ) → FirstNotPassed e s horizon bytes t → length (listing (sheetOf e s) (cellsOf (sheetOf e s) horizon) (suc t)) ≤ room bytes
-      → pendingLimit < length (pending (sheetOf e s) (cellsOf (sheetOf e s) horizon) horizon t)
-      → RunCondition e s horizon bytes (wrote (refused 20 t (length (listing (sheetOf e s) (cellsOf (sheetOf e s) horizon) (suc t)))) (listing (sheetOf e s) (cellsOf (sheetOf e s) horizon) (suc t)))
-  -- no refusal: a finished run
-  whole : Begins e s horizon → ((t : ℕ) → t < horizon → Passed (sheetOf e s) (cellsOf (sheetOf e s) horizon) horizon bytes t)
-      → RunCondition e s horizon bytes (wrote (finished (length (listing (sheetOf e s) (cellsOf (sheetOf e s) horizon) horizon))) (listing (sheetOf e s) (cellsOf (sheetOf e s) horizon) horizon))
+  -- the records of the ticks below a bound
+  abbrev pub listed : ℕ → List Record
+  listed = listing (sheetOf e s) c
+
+  -- the first tick that does not pass
+  pub record FirstNotPassed (t : ℕ) : Type 0 where
+    pub begins : Begins e s horizon
+    pub below : t < horizon
+    pub passed : (u : ℕ) → u < t → Passes u
+
+  -- what a run has written, under the condition of its answer
+  pub data RunCondition : Written → Type 0 where
+    -- before reading: 1 horizon 0 or above 1,000,000
+    horizon-outside : (horizon ≡ 0) ⊎ (greatestHorizon < horizon) → RunCondition (wrote (refused 1 0 0) [])
+    -- then the sheet's refusals, 2 to 18
+    sheet-refused : {n p : ℕ} → 0 < horizon → horizon ≤ greatestHorizon → checked e s ≡ refused n p 0
+        → RunCondition (wrote (refused n p 0) [])
+    -- each tick, watched changes: 19 the buffer cannot take all records of this tick
+    no-room : (t : ℕ) → FirstNotPassed t → room bytes < length (listed (suc t))
+        → RunCondition (wrote (refused 19 t (length (listed t))) (listed t))
+    -- each tick, then: 20 more than 4,096 changes pending after it
+    crowded : (t : ℕ) → FirstNotPassed t → length (listed (suc t)) ≤ room bytes
+        → pendingLimit < length (pending (sheetOf e s) c horizon t)
+        → RunCondition (wrote (refused 20 t (length (listed (suc t)))) (listed (suc t)))
+    -- no refusal: a finished run
+    whole : Begins e s horizon → ((t : ℕ) → t < horizon → Passes t)
+        → RunCondition (wrote (finished (length (listed horizon))) (listed horizon))

@@ -11,11 +11,13 @@ use Rattle.sheet.proofs.Rows.{finished≢refused}
 use Rattle.format.specs.Accepted.{the-first}
 use Rattle.format.proofs.Accepted.{accepted}
 use Rattle.network.specs.Listing.{Record, listing}
+use Rattle.network.specs.Timeline.{Cells}
 use Rattle.network.specs.Buffer.{room}
 use Rattle.network.specs.Run.{Written, cellsOf, ran}
 use Rattle.network.specs.RunConditions.{RunCondition, horizon-outside, sheet-refused, no-room, crowded, whole}
 use Rattle.network.proofs.Listing.{listing-of, watched-bytes}
 use Rattle.network.proofs.RunConditions.{run-conditions}
+use Rattle.network.proofs.Demand2.{timelines-exist}
 use Rattle.text.specs.Decimal.{decimal}
 use Rattle.text.specs.Lent.{Printed}
 use Rattle.text.specs.Printing.{blank, newline, recordsWord, refusedWord, printedText}
@@ -36,7 +38,10 @@ last-tick : {horizon : ℕ} → 0 < horizon → suc (horizon - 1) ≡ horizon
 last-tick h = omega arith
 
 module _ (s : List ℕ) (horizon bytes : ℕ) where
-  ended-so : (n : ℕ) (w : Written) → RunCondition firstEdition s horizon bytes w → w .answer ≡ finished n → Ended bytes n (w .records)
+  abbrev cells : Cells
+  cells = cellsOf (sheetOf firstEdition s) horizon
+
+  ended-so : (n : ℕ) (w : Written) → RunCondition firstEdition s cells horizon bytes w → w .answer ≡ finished n → Ended bytes n (w .records)
   ended-so n w (horizon-outside h) e = absurd (finished≢refused (sym e))
   ended-so n w (sheet-refused h k r) e = absurd (finished≢refused (sym e))
   ended-so n w (no-room t f o) e = absurd (finished≢refused (sym e))
@@ -44,16 +49,18 @@ module _ (s : List ℕ) (horizon bytes : ℕ) where
   ended-so n w (whole b all) e =
       record {
         counted = sym (count-of e);
-        fits = omega (arith, count-of e, subst (λ k. length (listing (sheetOf firstEdition s) (cellsOf (sheetOf firstEdition s) horizon) k) ≤ room bytes) (last-tick (b .some-tick)) (all (horizon - 1) (omega (arith, b .some-tick)) .room-left));
+        fits = omega (arith, count-of e, subst (λ k. length (listing (sheetOf firstEdition s) cells k) ≤ room bytes) (last-tick (b .some-tick)) (all (horizon - 1) (omega (arith, b .some-tick)) .room-left));
         small = λ r m.
             let S = sheetOf firstEdition s in
             let acc = accepted firstEdition the-first s (b .accepted) .sheet in
-            let shown = listing-of S acc (cellsOf S horizon) horizon .shown r m in
+            let shown = listing-of S acc cells horizon .shown r m in
             (omega (arith, shown .below, b .few-ticks), watched-bytes S acc (r .node) (shown .watched));
       }
 
   pub ended : (n : ℕ) → ran firstEdition s horizon bytes .answer ≡ finished n → Ended bytes n (ran firstEdition s horizon bytes .records)
-  ended n = ended-so n (ran firstEdition s horizon bytes) (run-conditions firstEdition s horizon bytes (ran firstEdition s horizon bytes) .0 refl)
+  ended n =
+      ended-so n (ran firstEdition s horizon bytes)
+      (run-conditions the-first s horizon bytes cells (timelines-exist the-first s horizon) (ran firstEdition s horizon bytes) .0 refl)
 
 module _ (input listing : List ℕ) where
   abbrev run : Written

@@ -1,5 +1,5 @@
--- Document 01, "Modules": a zero-delay loop is a closed chain of one or more modules of delay 0, each output being a used input of the next, memories included.
--- The outputs in it are the nodes on the loop.
+-- Document 01, "Modules": a zero-delay loop is a closed chain of one or more modules of delay 0, each output being a used input of the
+-- next, memories included. The outputs in it are the nodes on the loop.
 use mathlib.Core.Bool.{Bool, _&&_, _||_}
 use mathlib.Core.List.{List·Memᴰ}
 use mathlib.Core.Path.{_≡_}
@@ -10,12 +10,13 @@ use Rattle.sheet.specs.Enumerate.{anyOf, anyBelow}
 use Rattle.sheet.specs.Sheet.{Sheet, nodeCount, moduleCount, moduleOf, outputOf}
 use Rattle.sheet.specs.Wiring.{usedInputs}
 
--- module a's output is a used input of module b, and both have delay 0
+-- module a's output, a node, is a used input of module b, and both have delay 0
 pub record Feeds (S : Sheet) (a b : ℕ) : Type 0 where
   pub from : a < moduleCount S
   pub to : b < moduleCount S
   pub from-at-once : moduleOf S a .delay ≡ 0
   pub to-at-once : moduleOf S b .delay ≡ 0
+  pub node : outputOf S a < nodeCount S
   pub used : List·Memᴰ (outputOf S a) (usedInputs (moduleOf S b))
 
 pub data Chain (S : Sheet) : ℕ → ℕ → Type 0 where
@@ -54,7 +55,3 @@ leadsOver S (suc k) u v = leadsOver S k u v || leadsOver S k u k && leadsOver S 
 -- a node leads to itself
 abbrev pub onLoop : Sheet → ℕ → Bool
 onLoop S v = leadsOver S (nodeCount S) v v
-
--- The test tells a loop where every module's output is a node, which refusal 7 sees to:
-abbrev pub Outputs : Sheet → Type 0
-Outputs S = (m : ℕ) → m < moduleCount S → outputOf S m < nodeCount S
