@@ -1,5 +1,6 @@
 // Reads a horizon and a sheet from standard input, runs the sheet and prints its listing.
 ghost use mathlib.Core.Path.{_≡_};
+ghost use Prim.Native.Nat.{_≤_};
 ghost use lib.ListN.{length, take};
 ghost use Rattle.program.specs.Program.{programText};
 ghost use Rattle.program.specs.Room.{lentBytes, textBytes};
@@ -14,7 +15,7 @@ const TEXT: usize = 130014;
 fn print_whole(input: &[u8], listing: &mut [u8; LISTING], text: &mut [u8; TEXT]) -> usize
     requires { ⌜ (length (now listing) ≡ lentBytes) × (length (now text) ≡ textBytes) ⌝ }
     ensures { λ r. ⌜ (r ≡ length (programText (now (input .entry)) (now (listing .entry))))
-        × (take r (now (text .exit)) ≡ programText (now (input .entry)) (now (listing .entry))) ⌝ }
+        × (take r (now (text .exit)) ≡ programText (now (input .entry)) (now (listing .entry))) × (r ≤ length (now (text .exit))) ⌝ }
 {
     program::simulate(input, listing, text)
 }
