@@ -9,7 +9,9 @@ use Rattle.sheet.specs.declared.Edition.{Edition}
 use Rattle.sheet.specs.declared.Module.{Module}
 use Rattle.sheet.specs.Limits.{leastNodes, mostNodes, mostModules, mostEvents, mostWatched, inputByte, lastValue, longestDelay, lastTick}
 use Rattle.sheet.specs.Bytes.{wordAt}
-use Rattle.sheet.specs.Layout.{countSize, eventSize, nodesCounted, nodePlace, nodeAt, modulesPlace, modulesCounted, modulePlace, moduleAt, drivePlace, eventsCounted, eventPlace, eventAt, watchedPlace, watchedCounted, watchPlace, watchedAt, sheetEnd, sheetOf}
+use Rattle.sheet.specs.Layout.{countSize, eventSize, sheetEnd, sheetOf}
+use Rattle.sheet.specs.Layout.{nodesCounted, nodePlace, nodeAt, modulesPlace, modulesCounted, modulePlace, moduleAt}
+use Rattle.sheet.specs.Layout.{drivePlace, eventsCounted, eventPlace, eventAt, watchedPlace, watchedCounted, watchPlace, watchedAt}
 use Rattle.sheet.specs.Wiring.{usedInputs, unusedInputs}
 use Rattle.sheet.specs.Loop.{OnLoop}
 use Rattle.sheet.specs.Refusal.{Row, _at_when_, greatestParameter, key, rows}
@@ -48,14 +50,18 @@ pub data Condition (e : Edition) (s : List ℕ) : ℕ → ℕ → Type 0 where
   outside-range : {p least greatest : ℕ} → Count e s p least greatest → wordAt s p < least ⊎ greatest < wordAt s p → Condition e s 3 p
   -- a node: byte above 4
   byte-above : (v : ℕ) → v < nodesCounted s → inputByte < nodeAt s v → Condition e s 4 (nodePlace v)
-  -- a module: kind above the edition's greatest; parameter not allowed; wrong wiring; delay above 10,000; output already driven by an earlier record
+  -- a module: kind above the edition's greatest; parameter not allowed; wrong wiring; delay above 10,000; output already driven by an
+  -- earlier record
   kind-above : (m : ℕ) → m < modulesCounted s → e .greatest < moduleAt e s m .kind → Condition e s 5 (modulePlace e s m)
-  parameter-not-allowed : (m : ℕ) → m < modulesCounted s → greatestParameter (moduleAt e s m .kind) < moduleAt e s m .parameter → Condition e s 6 (modulePlace e s m)
+  parameter-not-allowed : (m : ℕ) → m < modulesCounted s → greatestParameter (moduleAt e s m .kind) < moduleAt e s m .parameter
+      → Condition e s 6 (modulePlace e s m)
   wrong-wiring : (m : ℕ) → m < modulesCounted s → Miswired (nodesCounted s) (moduleAt e s m) → Condition e s 7 (modulePlace e s m)
   delay-above : (m : ℕ) → m < modulesCounted s → longestDelay < moduleAt e s m .delay → Condition e s 8 (modulePlace e s m)
-  already-driven : (m : ℕ) → m < modulesCounted s → (earlier : ℕ) → earlier < m → moduleAt e s earlier .output ≡ moduleAt e s m .output → Condition e s 9 (modulePlace e s m)
+  already-driven : (m : ℕ) → m < modulesCounted s → (earlier : ℕ) → earlier < m → moduleAt e s earlier .output ≡ moduleAt e s m .output
+      → Condition e s 9 (modulePlace e s m)
   -- after the modules: driven node with byte 4, or undriven node with 0 to 3
-  driven-or-not : (v : ℕ) → v < nodesCounted s → (Driven (sheetOf e s) v × (nodeAt s v ≡ inputByte)) ⊎ ((Driven (sheetOf e s) v → ⊥) × nodeAt s v < inputByte) → Condition e s 10 v
+  driven-or-not : (v : ℕ) → v < nodesCounted s
+      → (Driven (sheetOf e s) v × (nodeAt s v ≡ inputByte)) ⊎ ((Driven (sheetOf e s) v → ⊥) × nodeAt s v < inputByte) → Condition e s 10 v
   -- a drive event: tick above 999,999; not an input of the sheet; value above 3; not above the event before
   tick-above : (k : ℕ) → k < eventsCounted e s → lastTick < eventAt e s k .tick → Condition e s 11 (eventPlace e s k)
   not-an-input : (k : ℕ) → k < eventsCounted e s → (Input (sheetOf e s) (eventAt e s k .node) → ⊥) → Condition e s 12 (eventPlace e s k)
@@ -64,7 +70,8 @@ pub data Condition (e : Edition) (s : List ℕ) : ℕ → ℕ → Type 0 where
   -- after the drive: input without an event at tick 0
   no-first-event : (v : ℕ) → Input (sheetOf e s) v → (DrivenAtStart (sheetOf e s) v → ⊥) → Condition e s 15 v
   -- a watched node: no such node, or not above the one before
-  wrong-watched : (k : ℕ) → k < watchedCounted e s → nodesCounted s ≤ watchedAt e s k ⊎ NotAbove (watchedAt e s) k → Condition e s 16 (watchPlace e s k)
+  wrong-watched : (k : ℕ) → k < watchedCounted e s → nodesCounted s ≤ watchedAt e s k ⊎ NotAbove (watchedAt e s) k
+      → Condition e s 16 (watchPlace e s k)
   -- after the watched: bytes left over; then a zero-delay loop
   left-over : sheetEnd e s < length s → Condition e s 17 (sheetEnd e s)
   on-loop : (v : ℕ) → OnLoop (sheetOf e s) v → Condition e s 18 v

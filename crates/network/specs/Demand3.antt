@@ -1,4 +1,5 @@
--- The mission, demand 3: one statement over the sheet's bytes, the horizon, the buffer length, the permutation, the listed order, and the orders of all ticks of both.
+-- The mission, demand 3: one statement over the sheet's bytes, the horizon, the buffer length, the permutation, the listed order, and the
+-- orders of all ticks of both.
 use mathlib.Core.List.{List}
 use mathlib.Core.Path.{_≡_}
 use Prim.Native.Nat.{ℕ, _<_}

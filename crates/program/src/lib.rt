@@ -6,7 +6,7 @@ ghost use Rattle.program.specs.Program.{horizonIn, sheetIn, listingOf, p
 // The bytes of the horizon.
 const HORIZON: usize = 4;
 
-// The bytes of an input that are looked at: the horizon, and one more than the longest sheet has.
+// The bytes of an input that are looked at: the horizon, and one more than 8,456, which no accepted sheet passes.
 pub const INPUT: usize = HORIZON + 8457;
 
 // The horizon: the input's first four bytes, missing ones being 0.
@@ -30,9 +30,11 @@ fn sheet_in(input: &[u8]) -> &[u8]
     &input[HORIZON..INPUT]
 }
 
-// Runs the input's sheet to its horizon over a lent listing, and prints the answer and its records into a lent text. Answers how many bytes it printed.
+// Runs the input's sheet to its horizon over a lent listing, and prints the answer and its records into a lent text.
+// Answers how many bytes it printed.
 pub fn simulate(input: &[u8], listing: &mut [u8], text: &mut [u8]) -> usize
-    ensures { λ r. ⌜ (now (listing .exit) ≡ listingOf (now (input .entry)) (now (listing .entry))) × Printed (now (text .entry)) (programText (now (input .entry)) (now (listing .entry))) (now (text .exit)) r ⌝ }
+    ensures { λ r. ⌜ (now (listing .exit) ≡ listingOf (now (input .entry)) (now (listing .entry)))
+        × Printed (now (text .entry)) (programText (now (input .entry)) (now (listing .entry))) (now (text .exit)) r ⌝ }
 {
     let answer = timing::run(sheet_in(input), horizon_in(input), listing);
     text::print(answer, listing, text)
