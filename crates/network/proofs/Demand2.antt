@@ -15,6 +15,7 @@ use Rattle.network.specs.Satisfied.{Satisfied}
 use Rattle.network.specs.Timeline.{Cells}
 use Rattle.sheet.proofs.Rows.{finished≢refused}
 use Rattle.format.proofs.Accepted.{accepted}
+use Rattle.format.proofs.Theorems.{no-refusal}
 use Rattle.network.proofs.Listing.{listing-of}
 use Rattle.network.proofs.RunConditions.{run-conditions}
 use Rattle.network.proofs.Runs.{own-cells}
@@ -30,7 +31,7 @@ module _ {E : Edition} (known : Known E) (s : List ℕ) (horizon bytes : ℕ) (c
   finishes w (sheet-refused h k r) count e = absurd (finished≢refused (sym e))
   finishes w (no-room t f o) count e = absurd (finished≢refused (sym e))
   finishes w (crowded t f r p) count e = absurd (finished≢refused (sym e))
-  finishes w (whole b all) count e = (listing-of (sheetOf E s) (accepted E known s (b .accepted) .sheet) c horizon, sym (count-of e))
+  finishes w (whole b all) count e = (listing-of (sheetOf E s) (accepted E known s (no-refusal known s .1 (b .none-met)) .sheet) c horizon, sym (count-of e))
 
   pub demand-2 : (Begins E s horizon → Satisfied (sheetOf E s) horizon c) → RunOf E s horizon bytes c
   demand-2 satisfied =
@@ -44,4 +45,4 @@ module _ {E : Edition} (known : Known E) (s : List ℕ) (horizon bytes : ℕ) (c
 
 -- such timelines exist: the sheet's own cells
 pub timelines-exist : {E : Edition} → Known E → (s : List ℕ) (horizon : ℕ) → Begins E s horizon → Satisfied (sheetOf E s) horizon (cellsOf (sheetOf E s) horizon)
-timelines-exist {E} known s horizon b = own-cells (sheetOf E s) (accepted E known s (b .accepted) .sheet) horizon
+timelines-exist {E} known s horizon b = own-cells (sheetOf E s) (accepted E known s (no-refusal known s .1 (b .none-met)) .sheet) horizon

@@ -18,6 +18,7 @@ use Rattle.sheet.specs.Sheet.{Sheet}
 use Rattle.sheet.specs.declared.Edition.{Edition}
 use Rattle.format.specs.Accepted.{Known}
 use Rattle.format.proofs.Accepted.{accepted}
+use Rattle.format.proofs.Theorems.{refusals, no-refusal}
 use Rattle.network.specs.Buffer.{room}
 use Rattle.network.specs.Listing.{listing, pending}
 use Rattle.network.specs.Run.{Written, ran, horizonOutside, writtenOf}
@@ -39,13 +40,13 @@ module _ {E : Edition} (known : Known E) (s : List ℕ) (horizon bytes : ℕ) (c
 
   begun : Begins E s horizon → ran E s horizon bytes ≡ writtenOf S cells horizon bytes
   begun b =
-      ran-sheet E s horizon bytes (in-range (b .some-tick) (b .few-ticks)) (b .accepted)
-      ∙ ran-satisfied S (accepted E known s (b .accepted) .sheet) horizon cells (satisfied b) bytes
+      let e : checked E s ≡ finished 0 = no-refusal known s .1 (b .none-met) in
+      ran-sheet E s horizon bytes (in-range (b .some-tick) (b .few-ticks)) e ∙ ran-satisfied S (accepted E known s e .sheet) horizon cells (satisfied b) bytes
 
   writes : (w : Written) → RunCondition E s cells horizon bytes w → ran E s horizon bytes ≡ w
   writes w (horizon-outside (inl e)) = ran-outside E s horizon bytes (rw (eq-eqb horizon 0 e))
   writes w (horizon-outside (inr h)) = ran-outside E s horizon bytes (rw (ne-eqb horizon 0 (λ e. omega (arith, h, e)), lt-ltb greatestHorizon horizon h))
-  writes w (sheet-refused some few r) = ran-refused E s horizon bytes (in-range some few) r
+  writes w (sheet-refused {n} {p} some few r) = ran-refused E s horizon bytes (in-range some few) (refusals known s n p .1 r)
   writes w (no-room t f over) = begun (f .begins) ∙ outcome.full S cells horizon bytes t (f .below) (f .passed) over
   writes w (crowded t f fits over) = begun (f .begins) ∙ outcome.crowded S cells horizon bytes t (f .below) (f .passed) fits over
   writes w (whole b all) = begun b ∙ outcome.whole S cells horizon bytes all
@@ -88,11 +89,11 @@ module _ {E : Edition} (known : Known E) (s : List ℕ) (horizon bytes : ℕ) (c
       by-horizon : Dec (horizon ≡ 0) → Dec (horizon ≤ greatestHorizon) → (w : Written) × RunCondition E s cells horizon bytes w
       by-horizon (yes e) q = (_, horizon-outside (inl e))
       by-horizon (no d) (no f) = (_, horizon-outside (inr (omega arith)))
-      by-horizon (no d) (yes f) = ⊎-elim begins (λ r. (_, sheet-refused (omega arith) f (r .2))) (checks E s)
+      by-horizon (no d) (yes f) = ⊎-elim begins (λ r. (_, sheet-refused (omega arith) f (refusals known s (r .0) (r .1) .0 (r .2)))) (checks E s)
         where
           begins : checked E s ≡ finished 0 → (w : Written) × RunCondition E s cells horizon bytes w
           begins e =
-              let b : Begins E s horizon = record { some-tick = omega arith; few-ticks = f; accepted = e } in
+              let b : Begins E s horizon = record { some-tick = omega arith; few-ticks = f; none-met = no-refusal known s .0 e } in
               ⊎-elim (λ all. (_, whole b all)) (λ w. w) (ticks b horizon (omega arith))
 
   -- The answer and the records of a run are those whose condition is met, and no other condition is.

@@ -9,7 +9,7 @@ use Rattle.sheet.specs.Limits.{greatestHorizon, pendingLimit}
 use Rattle.sheet.specs.Outcome.{finished, refused}
 use Rattle.sheet.specs.Sheet.{Sheet}
 use Rattle.sheet.specs.Layout.{sheetOf}
-use Rattle.sheet.specs.Refusal.{checked}
+use Rattle.format.specs.Condition.{Condition, FirstCondition}
 use Rattle.network.specs.Timeline.{Cells}
 use Rattle.network.specs.Listing.{Record, listing, pending}
 use Rattle.network.specs.Buffer.{room}
@@ -20,11 +20,11 @@ pub record Passed (S : Sheet) (c : Cells) (horizon bytes t : ℕ) : Type 0 where
   pub room-left : length (listing S c (suc t)) ≤ room bytes
   pub few-pending : length (pending S c horizon t) ≤ pendingLimit
 
--- a horizon in its range, and a sheet that the check accepts
+-- a horizon in its range, and a sheet that meets the condition of no refusal
 pub record Begins (e : Edition) (s : List ℕ) (horizon : ℕ) : Type 0 where
   pub some-tick : 0 < horizon
   pub few-ticks : horizon ≤ greatestHorizon
-  pub accepted : checked e s ≡ finished 0
+  pub none-met : (n p : ℕ) → Condition e s n p → ⊥
 
 -- over cells c: those of a set of timelines that satisfies the sheet
 module _ (e : Edition) (s : List ℕ) (c : Cells) (horizon bytes : ℕ) where
@@ -45,8 +45,8 @@ module _ (e : Edition) (s : List ℕ) (c : Cells) (horizon bytes : ℕ) where
   pub data RunCondition : Written → Type 0 where
     -- before reading: 1 horizon 0 or above 1,000,000
     horizon-outside : (horizon ≡ 0) ⊎ (greatestHorizon < horizon) → RunCondition (wrote (refused 1 0 0) [])
-    -- then the sheet's refusals, 2 to 18
-    sheet-refused : {n p : ℕ} → 0 < horizon → horizon ≤ greatestHorizon → checked e s ≡ refused n p 0
+    -- then the sheet's refusals, 2 to 18: the first whose condition is met, front to back
+    sheet-refused : {n p : ℕ} → 0 < horizon → horizon ≤ greatestHorizon → FirstCondition e s n p
         → RunCondition (wrote (refused n p 0) [])
     -- each tick, watched changes: 19 the buffer cannot take all records of this tick
     no-room : (t : ℕ) → FirstNotPassed t → room bytes < length (listed (suc t))

@@ -10,6 +10,7 @@ use Rattle.sheet.specs.Outcome.{Outcome, finished, refused}
 use Rattle.sheet.proofs.Rows.{finished≢refused}
 use Rattle.format.specs.Accepted.{the-first}
 use Rattle.format.proofs.Accepted.{accepted}
+use Rattle.format.proofs.Theorems.{no-refusal}
 use Rattle.network.specs.Listing.{Record, listing}
 use Rattle.network.specs.Timeline.{Cells}
 use Rattle.network.specs.Buffer.{room}
@@ -52,7 +53,7 @@ module _ (s : List ℕ) (horizon bytes : ℕ) where
         fits = omega (arith, count-of e, subst (λ k. length (listing (sheetOf firstEdition s) cells k) ≤ room bytes) (last-tick (b .some-tick)) (all (horizon - 1) (omega (arith, b .some-tick)) .room-left));
         small = λ r m.
             let S = sheetOf firstEdition s in
-            let acc = accepted firstEdition the-first s (b .accepted) .sheet in
+            let acc = accepted firstEdition the-first s (no-refusal the-first s .1 (b .none-met)) .sheet in
             let shown = listing-of S acc cells horizon .shown r m in
             (omega (arith, shown .below, b .few-ticks), watched-bytes S acc (r .node) (shown .watched));
       }
