@@ -93,14 +93,14 @@ enum timing_value {
  * answer[0] is the number, answer[1] the place (0 where the number is 0) and answer[2] the count of
  * records written. All three are written by every call.
  *
- * Nothing is asked of the bytes, the horizon and the lengths. Of the memory:
- * - A pointer is not null and aligned for its type, also where its length is 0; then no byte is
- *   read or written through it, and the address of anything will do.
- * - It points at as many bytes as its length says, at answer at three words, and nobody else writes
- *   them before the call returns; nobody else reads listing and answer either.
- * - Listing and answer overlap neither each other nor the sheet. The calls are proved, and compiled,
- *   for areas that are not shared: a record written over the sheet or over the answer would change
- *   what they take for unchanged.
+ * Nothing is asked of the sheet's bytes, the horizon and the lengths; listing and answer may hold
+ * anything before. Of the memory:
+ * - No pointer is null, also where its length is 0: then nothing is read or written through it, and
+ *   any other address will do. answer is aligned for its type.
+ * - sheet has as many bytes as length says, listing as many as bytes says, answer three words. Before
+ *   the call returns nobody else writes to the sheet, or reads or writes listing and answer.
+ * - The three areas do not overlap. The calls are proved, and compiled, for areas of their own: a
+ *   record written over the sheet or the answer would change what they take for unchanged.
  *
  * Neither keeps anything between calls or touches other memory than the lent areas and the stack, so
  * both may be called from several threads at once. Every call ends.

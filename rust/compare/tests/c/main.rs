@@ -1,5 +1,6 @@
 //! The library from C: its header, and programs in C over it.
 
+mod archive;
 mod calls;
 mod compiled;
 mod definitions;
