@@ -2,8 +2,10 @@
 
 mod entry;
 mod hex;
+mod place;
 mod stream;
 
 pub use entry::{check, run};
 pub use hex::hex;
+pub use place::{program, repository};
 pub use stream::{count, seed};

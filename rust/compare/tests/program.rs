@@ -1,28 +1,26 @@
 //! The program, run as a process, prints what the plain simulator says it prints.
 
 use std::io::{ErrorKind, Write};
-use std::path::Path;
 use std::process::{Command, Stdio};
 
-use compare::{hex, seed};
+use compare::{hex, program, seed};
+use generate::limits::RECORD_BYTES;
 use generate::sheets::*;
 use generate::Generator;
-use plain::{worked_run, LOW};
-
-/// Where the program is built, seen from this crate.
-const PROGRAM: &str = "../../target/bin/simulate";
+use plain::{worked_run, HIGH, INPUT, LOW};
 
 /// Starts a program with a stack of 1,024 KiB: it must need less.
 const WITH_SMALL_STACK: &str = r#"ulimit -s 1024 && exec "$0""#;
 
 /// What the program prints for this standard input, which is short enough for a pipe.
 fn printed(input: &[u8]) -> Vec<u8> {
-    let program = Path::new(env!("CARGO_MANIFEST_DIR")).join(PROGRAM);
+    let program = program();
     let mut child = Command::new("sh")
         .args(["-c", WITH_SMALL_STACK])
         .arg(&program)
         .stdin(Stdio::piped())
         .stdout(Stdio::piped())
+        .stderr(Stdio::piped())
         .spawn()
         .unwrap_or_else(|error| panic!("{}: {error}", program.display()));
     let mut stdin = child.stdin.take().expect("it was piped");
@@ -33,6 +31,8 @@ fn printed(input: &[u8]) -> Vec<u8> {
     drop(stdin);
     let output = child.wait_with_output().expect("it was started");
     assert!(output.status.success(), "{:?}", output.status);
+    // The test `standard_error` has the input that is spoken of there.
+    assert!(output.stderr.is_empty() || input.is_empty());
     output.stdout
 }
 
@@ -99,4 +99,35 @@ fn the_lent_room() {
     for (horizon, word) in [(10_000, "records"), (10_001, "refused")] {
         assert_eq!(agreed(&input(horizon, &ring), "the lent room"), word);
     }
+}
+
+/// Node 100 is the NAND of itself and node 0, with delay 1: it stays high as long as the input is
+/// low, and changes at every tick after the one at which the input goes high.
+fn late_oscillator(high_from: u32) -> Vec<u8> {
+    let mut nodes = vec![INPUT; 100];
+    nodes.push(HIGH);
+    let mut drive: Vec<Record> = (0..100).map(|node| (0, node, LOW)).collect();
+    drive.push((high_from, 0, HIGH));
+    sheet(&nodes, &[gate(NAND, [0, 100], 100, 1)], &drive, &[100]).encode()
+}
+
+/// All 10,000 records that the lent room takes, the ticks of all but the first with six digits and
+/// the node with three: no run prints more.
+#[test]
+fn the_longest_text() {
+    let (sheet, horizon) = (late_oscillator(99_999), 109_999);
+    let mut listing = vec![0; 10_000 * RECORD_BYTES];
+    let answer = plain::run(&sheet, horizon, &mut listing).triple();
+    assert_eq!(answer, [0, 0, 10_000]);
+    let mut expected = String::from("records 10000\n");
+    for (tick, node, value) in records(&listing) {
+        expected += &format!("{tick} {node} {value}\n");
+    }
+    assert_eq!(expected.len(), 14 + 8 + 9_999 * 13);
+    let text = printed(&input(horizon, &sheet));
+    assert_eq!(text.len(), expected.len());
+    assert!(text == expected.as_bytes(), "a line differs");
+    // One tick more has one record more, which finds no room.
+    let refused = printed(&input(horizon + 1, &sheet));
+    assert_eq!(refused, b"refused 19 109999\n");
 }

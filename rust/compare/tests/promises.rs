@@ -1,11 +1,8 @@
 //! Every file and every name that docs/PROMISES.md points at is there.
 
 use std::fs;
-use std::path::{Path, PathBuf};
 
-fn repository() -> PathBuf {
-    Path::new(env!("CARGO_MANIFEST_DIR")).join("../..")
-}
+use compare::repository;
 
 /// A code word of the page: names that a file has, or a file alone.
 #[derive(Debug)]

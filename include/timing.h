@@ -1,0 +1,135 @@
+/*
+ * Timing networks: checks a sheet, and runs it to a horizon.
+ *
+ * Link libtiming_c.a, which is compiled for x86-64 Linux. It asks for memcpy and memset alone.
+ * What a sheet is, and every word used here, is in document 01; how to begin, in docs/USING.md.
+ */
+#ifndef TIMING_H
+#define TIMING_H
+
+#include <stddef.h>
+#include <stdint.h>
+
+#ifdef __cplusplus
+extern "C" {
+#endif
+
+/*
+ * answer[0], the number. A call answers TIMING_FINISHED, or the first refusal that the sheet, read
+ * front to back, or the run meets. Checking gives 0 and 2 to 18, a run 0 to 20.
+ */
+enum timing_number {
+    TIMING_FINISHED = 0, /* the sheet is accepted, or the run has reached its horizon */
+
+    /* Before reading; the place is 0. */
+    TIMING_HORIZON_OUTSIDE = 1, /* horizon 0 or above 1,000,000 */
+
+    /* The place is a byte of the sheet, counted from 0: the first of the count or record. */
+    TIMING_ENDS_INSIDE = 2,           /* the bytes end inside a count or record */
+    TIMING_OUTSIDE_RANGE = 3,         /* a count outside its range */
+    TIMING_BYTE_ABOVE = 4,            /* a node: byte above 4 */
+    TIMING_KIND_ABOVE = 5,            /* a module: kind above 9 */
+    TIMING_PARAMETER_NOT_ALLOWED = 6, /* a module: parameter not allowed */
+    TIMING_WRONG_WIRING = 7,          /* a module: output or used input is no node, or unused input not 0 */
+    TIMING_DELAY_ABOVE = 8,           /* a module: delay above 10,000 */
+    TIMING_ALREADY_DRIVEN = 9,        /* a module: output already driven by an earlier record */
+
+    /* After the modules; the place is the least such node. */
+    TIMING_DRIVEN_OR_NOT = 10, /* a driven node with byte 4, or an undriven node with 0 to 3 */
+
+    /* The place is the event's first byte. */
+    TIMING_TICK_ABOVE = 11,       /* an event: tick above 999,999 */
+    TIMING_NOT_AN_INPUT = 12,     /* an event: not an input of the sheet */
+    TIMING_VALUE_ABOVE = 13,      /* an event: value above 3 */
+    TIMING_NOT_ABOVE_BEFORE = 14, /* an event: not above the one before, by tick and then by node */
+
+    /* After the drive; the place is the least such node. */
+    TIMING_NO_FIRST_EVENT = 15, /* an input without an event at tick 0 */
+
+    /* The place is the watched node's byte. */
+    TIMING_WRONG_WATCHED = 16, /* a watched node: no such node, or not above the one before */
+
+    /* After the watched nodes. */
+    TIMING_LEFT_OVER = 17, /* bytes left over; the place is the first of them */
+    TIMING_ON_LOOP = 18,   /* a zero-delay loop; the place is the least node on any such loop */
+
+    /* While running; the place is the tick. */
+    TIMING_NO_ROOM = 19, /* the listing's buffer cannot take all records of this tick: lend more */
+    TIMING_CROWDED = 20  /* more than 4,096 changes are pending after this tick */
+};
+
+/* The values of a cell, as they stand in a listing. */
+enum timing_value {
+    TIMING_LOW = 0,
+    TIMING_HIGH = 1,
+    TIMING_UNKNOWN = 2, /* undefined, printed X */
+    TIMING_NONE = 3     /* no value, printed Z */
+};
+
+/* A record of a listing: tick (4 bytes, the low byte first), node (1 byte), value (1 byte). */
+#define TIMING_RECORD_SIZE 6
+
+/* Limits. The counts of a sheet's nodes, modules, events and watched nodes: */
+#define TIMING_LEAST_NODES 1
+#define TIMING_MOST_NODES 256
+#define TIMING_MOST_MODULES 256
+#define TIMING_MOST_EVENTS 1024
+#define TIMING_MOST_WATCHED 256
+/* the byte of a node that is an input, and the greatest value of a cell: */
+#define TIMING_INPUT_BYTE 4
+#define TIMING_LAST_VALUE 3
+/* a module's delay, an event's tick, a run's horizon: */
+#define TIMING_LONGEST_DELAY 10000
+#define TIMING_LAST_TICK 999999
+#define TIMING_GREATEST_HORIZON 1000000
+/* the changes that may be pending after a tick: */
+#define TIMING_PENDING_LIMIT 4096
+/* bytes that no accepted sheet passes: */
+#define TIMING_LONGEST_SHEET 8456
+
+/*
+ * Both calls:
+ *
+ * answer[0] is the number, answer[1] the place (0 where the number is 0) and answer[2] the count of
+ * records written. All three are written by every call.
+ *
+ * Nothing is asked of the sheet's bytes, the horizon and the lengths; listing and answer may hold
+ * anything before. Of the memory:
+ * - No pointer is null, also where its length is 0: then nothing is read or written through it, and
+ *   any other address will do. answer is aligned for its type.
+ * - sheet has as many bytes as length says, listing as many as bytes says, answer three words. Before
+ *   the call returns nobody else writes to the sheet, or reads or writes listing and answer.
+ * - The three areas do not overlap. The calls are proved, and compiled, for areas of their own: a
+ *   record written over the sheet or the answer would change what they take for unchanged.
+ *
+ * Neither keeps anything between calls or touches other memory than the lent areas and the stack, so
+ * both may be called from several threads at once. Every call ends.
+ */
+
+/*
+ * The bytes of stack that a call uses below its caller's frame, whatever the sheet: measured (214.3
+ * and 234.2 KiB) and rounded up to 16 KiB. A thread needs some for itself besides.
+ */
+#define TIMING_CHECK_STACK 229376
+#define TIMING_RUN_STACK 245760
+
+/* Checks the sheet without running it. The count is always 0. */
+void timing_check(const uint8_t *sheet, size_t length, uint32_t answer[3]);
+
+/*
+ * Runs the sheet to the horizon and writes the records to the front of the listing, rising by tick
+ * and then by node: each watched node's value at tick 0, and from then on its changes below the
+ * horizon. A buffer takes bytes / TIMING_RECORD_SIZE records, rounded down.
+ *
+ * Finished: the records are all there are. Refusals 1 to 18: none is written. TIMING_NO_ROOM: those
+ * of all earlier ticks. TIMING_CROWDED: those and this tick's. The buffer keeps every byte past the
+ * last record as it was.
+ */
+void timing_run(const uint8_t *sheet, size_t length, uint32_t horizon, uint8_t *listing, size_t bytes,
+                uint32_t answer[3]);
+
+#ifdef __cplusplus
+}
+#endif
+
+#endif

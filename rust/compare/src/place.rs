@@ -1,0 +1,13 @@
+//! Where things are built and kept, seen from this crate.
+
+use std::path::{Path, PathBuf};
+
+/// The repository's folder.
+pub fn repository() -> PathBuf {
+    Path::new(env!("CARGO_MANIFEST_DIR")).join("../..")
+}
+
+/// The program, which must have been built.
+pub fn program() -> PathBuf {
+    repository().join("target/bin/simulate")
+}

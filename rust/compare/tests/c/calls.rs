@@ -1,0 +1,90 @@
+//! Calls from C: the answer and every byte of the buffer are the plain simulator's.
+
+use std::collections::BTreeSet;
+use std::sync::LazyLock;
+
+use compare::hex;
+use generate::shared::{four_buffers, toggled};
+use generate::sheets::constant;
+use generate::{by_hand, Generator, Size};
+use plain::{worked_run, HIGH};
+
+use crate::compiled::Program;
+
+static CALLS: LazyLock<Program> = LazyLock::new(|| Program::new("calls"));
+
+/// What the buffer is filled with before a run.
+const UNTOUCHED: u8 = 0xA5;
+
+fn words([number, place, count]: [u32; 3]) -> String {
+    format!("{number} {place} {count}\n")
+}
+
+/// Asserts that a check from C answers what the plain simulator does, and gives the number.
+fn checked(sheet: &[u8], whence: &str) -> u32 {
+    let answer = plain::check(sheet).triple();
+    let printed = CALLS.printed(&["check".into()], sheet);
+    assert_eq!(printed, words(answer), "{whence}: {}", hex(sheet));
+    answer[0]
+}
+
+/// Asserts that a run from C answers what the plain simulator does and leaves the same bytes, and
+/// gives the answer.
+fn ran(sheet: &[u8], horizon: u32, bytes: usize, whence: &str) -> [u32; 3] {
+    let mut listing = vec![UNTOUCHED; bytes];
+    let answer = plain::run(sheet, horizon, &mut listing).triple();
+    let arguments = ["run".into(), horizon.to_string(), bytes.to_string()];
+    let printed = CALLS.printed(&arguments, sheet);
+    let expected = format!("{}{}\n", words(answer), hex(&listing));
+    assert_eq!(printed, expected, "{whence}: {}", hex(sheet));
+    answer
+}
+
+#[test]
+fn the_worked_run() {
+    let run = |bytes| ran(worked_run::SHEET, worked_run::HORIZON, bytes, "worked run");
+    assert_eq!(run(36), [0, 0, 6]);
+    assert_eq!(run(60_000), [0, 0, 6]);
+    assert_eq!(run(35), [19, 11, 5]);
+    assert_eq!(run(0), [19, 0, 0]);
+    assert_eq!(checked(worked_run::SHEET, "worked run"), 0);
+}
+
+/// The horizon, 19 and 20; a sheet's refusals are below.
+#[test]
+fn refusals_of_a_run() {
+    for horizon in [0, 1_000_001, u32::MAX] {
+        assert_eq!(ran(worked_run::SHEET, horizon, 60, "horizon"), [1, 0, 0]);
+    }
+    let mut modules = four_buffers();
+    modules.push(constant(HIGH, 5, 5_000));
+    let crowded = toggled(&modules).encode();
+    assert_eq!(
+        ran(&crowded, 10_000, 60_000, "4,097 pending"),
+        [20, 1_023, 1_024]
+    );
+    assert_eq!(
+        ran(&crowded, 10_000, 6_143, "no room before"),
+        [19, 1_023, 1_023]
+    );
+}
+
+/// Every sheet worked out by hand, checked and run: refusals 2 to 18, and 19 for the small buffer.
+#[test]
+fn sheets_worked_out_by_hand() {
+    let mut met = BTreeSet::new();
+    for case in by_hand::cases() {
+        met.insert(checked(&case.sheet, case.name));
+        let [number, ..] = ran(&case.sheet, 12, 120, case.name);
+        met.insert(number);
+    }
+    let expected: BTreeSet<u32> = [0].into_iter().chain(2..=19).collect();
+    assert_eq!(met, expected);
+}
+
+#[test]
+fn a_full_sheet() {
+    let sheet = Generator::new(4).valid(Size::Full).encode();
+    let [number, ..] = ran(&sheet, 20, 60_000, "full");
+    assert_eq!(number, 0);
+}

@@ -1,0 +1,81 @@
+//! Names and numbers of the definitions.
+
+use std::fs;
+
+use compare::repository;
+
+/// A name and its number.
+pub type Named = (String, u32);
+
+fn text(file: &str) -> String {
+    let path = repository().join("crates").join(file);
+    fs::read_to_string(path).unwrap_or_else(|error| panic!("{file}: {error}"))
+}
+
+/// The number that a text begins with.
+pub fn leading_number(text: &str) -> Option<u32> {
+    let digits = text.find(|c: char| !c.is_ascii_digit());
+    text[..digits.unwrap_or(text.len())].parse().ok()
+}
+
+/// The name of a case: "  name : ..", two columns in.
+fn case_name(line: &str) -> Option<&str> {
+    let (name, _) = line.strip_prefix("  ")?.split_once(" : ")?;
+    let is_name = name.chars().all(|c| c.is_ascii_lowercase() || c == '-');
+    is_name.then_some(name)
+}
+
+/// The cases of a file, each with the number that stands after `word` on its lines. A case without
+/// a number stands for no refusal of its own.
+fn cases(file: &str, word: &str) -> Vec<Named> {
+    let mut found = Vec::new();
+    let mut name = None;
+    for line in text(file).lines() {
+        name = case_name(line).map(String::from).or(name);
+        let numbers = line.split(word).skip(1).filter_map(leading_number);
+        found.extend(numbers.map(|number| {
+            let name = name.clone();
+            (name.expect("a number stands in a case"), number)
+        }));
+    }
+    found
+}
+
+/// Every refusal's name and number: 2 to 18, and then those of a run.
+pub fn refusals() -> Vec<Named> {
+    let of_a_sheet = cases("format/specs/Condition.antt", "Condition e s ");
+    let of_a_run = cases("network/specs/RunConditions.antt", "(refused ");
+    [of_a_sheet, of_a_run].concat()
+}
+
+/// The numbers that a file names: "name = number".
+fn constants(file: &str) -> Vec<Named> {
+    let constant = |line: &str| {
+        let (name, number) = line.split_once(" = ")?;
+        Some((name.to_string(), number.parse().ok()?))
+    };
+    text(file).lines().filter_map(constant).collect()
+}
+
+/// Document 01's limits, and the size of a record.
+pub fn limits() -> Vec<Named> {
+    let limits = constants("sheet/specs/Limits.antt");
+    [limits, constants("network/specs/Buffer.antt")].concat()
+}
+
+/// The values of a cell.
+pub fn values() -> Vec<Named> {
+    constants("level/specs/Level.antt")
+}
+
+/// The bound in the theorem on the longest sheet.
+pub fn longest_sheet() -> u32 {
+    let text = text("format/proofs/Theorems.antt");
+    let statement = text
+        .lines()
+        .find(|line| line.starts_with("pub longest-sheet :"));
+    let bound = statement.and_then(|line| line.rsplit(" ≤ ").next());
+    bound
+        .and_then(leading_number)
+        .expect("the theorem has a bound")
+}

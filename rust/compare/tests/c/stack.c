@@ -1,0 +1,76 @@
+/*
+ * The bytes of stack that a call uses over the sheet at standard input, below the frame that makes
+ * it: the call is made in a thread whose stack is filled with one byte beforehand, and the lowest
+ * byte that has changed is looked for afterwards.
+ *
+ *     stack check
+ *     stack run HORIZON
+ */
+#define _POSIX_C_SOURCE 200809L
+
+#include <pthread.h>
+#include <stdio.h>
+#include <stdlib.h>
+#include <string.h>
+
+#include "timing.h"
+
+#define STACK ((size_t)1 << 20)
+#define PAGE 4096
+#define UNTOUCHED 0xA5
+
+static uint8_t sheet[2 * TIMING_LONGEST_SHEET];
+static size_t length;
+static uint32_t horizon; /* 0: the sheet is checked and not run */
+static uint8_t listing[60000];
+static uint32_t answer[3];
+static ptrdiff_t used;
+
+static const uint8_t *lowest_touched(const uint8_t *stack)
+{
+    while (*stack == UNTOUCHED)
+        stack++;
+    return stack;
+}
+
+/* Makes the call on this stack. It is looked at before the thread ends and gives it back. */
+static void *call_on(void *stack)
+{
+    const uint8_t *frame = __builtin_frame_address(0);
+
+    if (horizon == 0)
+        timing_check(sheet, length, answer);
+    else
+        timing_run(sheet, length, horizon, listing, sizeof listing, answer);
+    used = frame - lowest_touched(stack);
+    return NULL;
+}
+
+/* 0 where the thread has run. */
+static int run_thread(void *stack)
+{
+    pthread_attr_t attributes;
+    pthread_t thread;
+
+    if (pthread_attr_init(&attributes) != 0 || pthread_attr_setstack(&attributes, stack, STACK) != 0)
+        return -1;
+    if (pthread_create(&thread, &attributes, call_on, stack) != 0)
+        return -1;
+    return pthread_join(thread, NULL);
+}
+
+int main(int argc, char **argv)
+{
+    void *stack;
+
+    length = fread(sheet, 1, sizeof sheet, stdin);
+    if (argc == 3)
+        horizon = (uint32_t)strtoul(argv[2], NULL, 10);
+    if (posix_memalign(&stack, PAGE, STACK) != 0)
+        return EXIT_FAILURE;
+    memset(stack, UNTOUCHED, STACK);
+    if (run_thread(stack) != 0)
+        return EXIT_FAILURE;
+    printf("%td\n", used);
+    return EXIT_SUCCESS;
+}

@@ -1,0 +1,46 @@
+/*
+ * Document 01's worked run from C, whole, as an example to copy. In the repository's folder:
+ *
+ *     gcc -std=c99 -I include rust/compare/tests/c/worked_run.c target/staticlib/libtiming_c.a -o worked_run
+ */
+#include <inttypes.h>
+#include <stdio.h>
+#include <stdlib.h>
+
+#include "timing.h"
+
+static const uint8_t sheet[] = {
+    2, 0, 4, 2,          /* two nodes: node 0 is an input, node 1 begins at X */
+    1, 0,                /* one module */
+    6, 0, 1, 0, 1, 3, 0, /* NAND, no parameter, onto node 1, of nodes 0 and 1, delay 3 */
+    2, 0,                /* two events */
+    0, 0, 0, 0, 0, 0,    /* at tick 0 node 0 is 0 */
+    5, 0, 0, 0, 0, 1,    /* at tick 5 it is 1 */
+    2, 0, 0, 1           /* two watched nodes: 0 and 1 */
+};
+
+static uint32_t tick_of(const uint8_t *record)
+{
+    return record[0] | (uint32_t)record[1] << 8 | (uint32_t)record[2] << 16 | (uint32_t)record[3] << 24;
+}
+
+static void print_record(const uint8_t *record)
+{
+    printf("%" PRIu32 " %d %c\n", tick_of(record), record[4], "01XZ"[record[5]]);
+}
+
+int main(void)
+{
+    uint8_t listing[100 * TIMING_RECORD_SIZE];
+    uint32_t answer[3];
+
+    timing_run(sheet, sizeof sheet, 12, listing, sizeof listing, answer);
+    if (answer[0] != TIMING_FINISHED) {
+        fprintf(stderr, "refused %" PRIu32 " at %" PRIu32 "\n", answer[0], answer[1]);
+        return EXIT_FAILURE;
+    }
+    printf("records %" PRIu32 "\n", answer[2]);
+    for (uint32_t i = 0; i < answer[2]; i++)
+        print_record(listing + i * TIMING_RECORD_SIZE);
+    return EXIT_SUCCESS;
+}
