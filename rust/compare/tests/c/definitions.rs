@@ -18,9 +18,9 @@ pub fn leading_number(text: &str) -> Option<u32> {
     text[..digits.unwrap_or(text.len())].parse().ok()
 }
 
-/// The name of a case: "  name : ..", two columns in.
+/// The name of a case: "  name : ..", two columns in or more.
 fn case_name(line: &str) -> Option<&str> {
-    let (name, _) = line.strip_prefix("  ")?.split_once(" : ")?;
+    let (name, _) = line.strip_prefix("  ")?.trim_start().split_once(" : ")?;
     let is_name = name.chars().all(|c| c.is_ascii_lowercase() || c == '-');
     is_name.then_some(name)
 }
