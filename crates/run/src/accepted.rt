@@ -42,7 +42,7 @@ pub(crate) fn run_accepted(
     load_modules(records, modules, &mut table, &mut delays);
     let mut times = [0u32; EVENTS];
     let mut nodes = [0u8; EVENTS];
-    let mut levels = [0u8; EVENTS];
+    let mut levels = [Level::LOW; EVENTS];
     let drive = contents.drive;
     load_drive(
         drive,
@@ -51,10 +51,10 @@ pub(crate) fn run_accepted(
         &mut nodes,
         &mut levels,
     );
-    let mut values = [0u8; NODES];
+    let mut values = [Level::LOW; NODES];
     let initial = contents.nodes;
     load_values(initial, counts.nodes as usize, &mut values);
-    let mut last = [0u8; MODULES];
+    let mut last = [Level::LOW; MODULES];
     load_last(records, modules, &values, &mut last);
     let listed = contents.modules;
     let shape = Shape {
