@@ -16,7 +16,7 @@ use Rattle.sheet.specs.Refusal.{key}
 use Rattle.format.specs.Encode.{encode}
 use Rattle.network.specs.Listing.{Record, recordKey}
 
--- a permutation of the numbers below n: each gets another, and back
+-- a permutation of the numbers below n: each gets a number, no two the same, and back
 pub record Permutation (n : ℕ) : Type 0 where
   pub to : ℕ → ℕ
   pub from : ℕ → ℕ
