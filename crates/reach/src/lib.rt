@@ -94,7 +94,8 @@ fn join_row(reach: &mut [bool; LINKS], row: &[bool; NODES], u: usize)
 // If node u leads to node k, it leads where the row says.
 fn join_over(reach: &mut [bool; LINKS], row: &[bool; NODES], u: usize, k: usize)
     requires { ⌜ (length (now reach) ≡ matrixSize) × (u < mostNodes) × (k < mostNodes) ⌝ }
-    ensures { λ _. ⌜ Adds (now (reach .entry)) (λ a v. eqb a u && (entry (now (reach .entry)) a k && getD (now (row .entry)) v false)) (now (reach .exit)) ⌝ }
+    ensures { λ _. ⌜ Adds (now (reach .entry)) (λ a v. eqb a u && (entry (now (reach .entry)) a k && getD (now (row .entry)) v false))
+        (now (reach .exit)) ⌝ }
 {
     if reach[NODES * u + k] {
         join_row(reach, row, u);
@@ -104,7 +105,8 @@ fn join_over(reach: &mut [bool; LINKS], row: &[bool; NODES], u: usize, k: usize)
 // Every node that leads to node k leads where that leads.
 fn close_over(reach: &mut [bool; LINKS], k: usize)
     requires { ⌜ (length (now reach) ≡ matrixSize) × (k < mostNodes) ⌝ }
-    ensures { λ _. ⌜ Adds (now (reach .entry)) (λ a v. entry (now (reach .entry)) a k && entry (now (reach .entry)) k v) (now (reach .exit)) ⌝ }
+    ensures { λ _. ⌜ Adds (now (reach .entry)) (λ a v. entry (now (reach .entry)) a k && entry (now (reach .entry)) k v)
+        (now (reach .exit)) ⌝ }
 {
     let row = row_of(reach, k);
     let mut u: usize = 0;

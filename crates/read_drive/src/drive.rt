@@ -56,8 +56,10 @@ pub fn drive_section(
     nodes: u16,
     driven: &[bool; NODES],
 ) -> DriveRead
-    requires { ⌜ (place ≡ drivePlace e (now s)) × (place ≤ 100000) × (nodes ≡ nodesCounted (now s)) × (nodes ≤ mostNodes) × Flags (now driven) (isDriven (sheetOf e (now s))) ⌝ }
-    ensures { λ r. ⌜ SectionRead (rowsOf e (now (s .entry)) 2) mostEvents noEvent (eventsCounted e (now (s .entry))) (eventAt e (now (s .entry))) (outcomeOf (r .answer)) (r .count) (r .drive) ⌝ }
+    requires { ⌜ (place ≡ drivePlace e (now s)) × (place ≤ 100000) × (nodes ≡ nodesCounted (now s)) × (nodes ≤ mostNodes)
+        × Flags (now driven) (isDriven (sheetOf e (now s))) ⌝ }
+    ensures { λ r. ⌜ SectionRead (rowsOf e (now (s .entry)) 2) mostEvents noEvent (eventsCounted e (now (s .entry)))
+        (eventAt e (now (s .entry))) (outcomeOf (r .answer)) (r .count) (r .drive) ⌝ }
 {
     let checked = count_refusal(s, place, 0, MOST_EVENTS);
     let a = checked.answer;

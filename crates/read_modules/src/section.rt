@@ -98,7 +98,8 @@ pub fn modules_section(
     count: u16,
     nodes: &[u8; NODES],
 ) -> ModulesRead
-    requires { ⌜ (place ≡ modulesPlace (now s)) × (count ≡ nodesCounted (now s)) × (count ≤ mostNodes) × (now nodes ≡ filled mostNodes 0 (listed (nodesCounted (now s)) (nodeAt (now s)))) ⌝ }
+    requires { ⌜ (place ≡ modulesPlace (now s)) × (count ≡ nodesCounted (now s)) × (count ≤ mostNodes)
+        × (now nodes ≡ filled mostNodes 0 (listed (nodesCounted (now s)) (nodeAt (now s)))) ⌝ }
     ensures { λ r. ⌜ ModulesKnown e (now (s .entry)) (rowsOf e (now (s .entry)) 1) r ⌝ }
 {
     let read = module_records(e, s, place, count);

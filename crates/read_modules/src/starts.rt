@@ -31,7 +31,8 @@ fn start_refusal(v: u16, byte: u8, driven: bool) -> Answer
 // The first refusal met at a node's byte.
 pub(crate) fn start_records(nodes: &[u8; NODES], count: u16, driven: &[bool; NODES]) -> Answer
     requires { ⌜ count ≤ mostNodes ⌝ }
-    ensures { λ r. ⌜ outcomeOf r ≡ first (each count (λ v. byteRows v (getD (now (nodes .entry)) v 0) (getD (now (driven .entry)) v false))) ⌝ }
+    ensures { λ r. ⌜ outcomeOf r
+        ≡ first (each count (λ v. byteRows v (getD (now (nodes .entry)) v 0) (getD (now (driven .entry)) v false))) ⌝ }
 {
     let mut v: u16 = 0;
     while v < count {

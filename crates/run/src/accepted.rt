@@ -32,8 +32,10 @@ pub(crate) fn run_accepted(
     records: [Module; MODULES],
     listing: &mut [u8],
 ) -> Answer
-    requires { ⌜ Accepted (heldSheet contents) × Holds (heldSheet contents) contents × (0 < horizon) × (horizon ≤ greatestHorizon) × (take (contents .counts .modules) records ≡ inWorkingOrder (heldSheet contents)) ⌝ }
-    ensures { λ r. ⌜ Leaves (ranSheet (heldSheet contents) horizon (length (now (listing .entry)))) (now (listing .entry)) (outcomeOf r) (now (listing .exit)) ⌝ }
+    requires { ⌜ Accepted (heldSheet contents) × Holds (heldSheet contents) contents × (0 < horizon) × (horizon ≤ greatestHorizon)
+        × (take (contents .counts .modules) records ≡ inWorkingOrder (heldSheet contents)) ⌝ }
+    ensures { λ r. ⌜ Leaves (ranSheet (heldSheet contents) horizon (length (now (listing .entry)))) (now (listing .entry)) (outcomeOf r)
+        (now (listing .exit)) ⌝ }
 {
     let counts = contents.counts;
     let modules = counts.modules as usize;

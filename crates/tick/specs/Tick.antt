@@ -51,7 +51,8 @@ workedTick l horizon t values last pending =
     tick arrangement l horizon t (record { values = values; last = last; shown = []; pending = pending }) .state
 
 -- the arrays after a tick's work, and what stands then
-pub record Worked (l : Loaded) (horizon t : ℕ) (values last : List ℕ) (pending : arrangement .Kept) (values′ last′ store′ : List ℕ) (after : Standing) : Type 0 where
+pub record Worked (l : Loaded) (horizon t : ℕ) (values last : List ℕ) (pending : arrangement .Kept)
+    (values′ last′ store′ : List ℕ) (after : Standing) : Type 0 where
   pub values-worked : values′ ≡ workedTick l horizon t values last pending .values
   pub last-worked : last′ ≡ workedTick l horizon t values last pending .last
   pub pending-worked : keptIn store′ (after .pending) ≡ workedTick l horizon t values last pending .pending
