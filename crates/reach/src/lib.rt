@@ -138,7 +138,7 @@ pub fn closure(reach: &mut [bool; LINKS], modules: [Module; MODULES], n: u16, no
 }
 
 // The least node that leads to itself.
-pub fn least(reach: &[bool; LINKS], nodes: u16) -> Answer
+pub fn least_on_loop(reach: &[bool; LINKS], nodes: u16) -> Answer
     ensures { λ r. ⌜ outcomeOf r ≡ first (each (min nodes mostNodes) (diagonalRows (entry (now (reach .entry))))) ⌝ }
 {
     let n = cut(nodes) as usize;
@@ -158,5 +158,5 @@ pub fn loop_refusal(modules: [Module; MODULES], n: u16, nodes: u16) -> Answer
 {
     let mut reach = [false; LINKS];
     closure(&mut reach, modules, n, nodes);
-    least(&reach, nodes)
+    least_on_loop(&reach, nodes)
 }

@@ -2,9 +2,9 @@
 use crate::event::EventChecked;
 use crate::event::event_checked;
 use crate::event::order_key;
-use crate::starts::begun_before;
-use crate::starts::first_events;
-use crate::starts::mark;
+use crate::first_events::begun_before;
+use crate::first_events::first_events;
+use crate::first_events::mark;
 use read_nodes::count_refusal;
 use sheet::Answer;
 use sheet::COUNT_SIZE;

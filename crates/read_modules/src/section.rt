@@ -1,6 +1,6 @@
 // The modules' section.
+use crate::node_bytes::first_byte_refusal;
 use crate::record::record_refusal;
-use crate::starts::start_records;
 use read_nodes::count_refusal;
 use sheet::Answer;
 use sheet::COUNT_SIZE;
@@ -108,7 +108,7 @@ pub fn modules_section(
         return read;
     };
     let driven = read.driven;
-    let b = start_records(nodes, count, &driven);
+    let b = first_byte_refusal(nodes, count, &driven);
     let Answer::Ran(_) = b else {
         return none_read(b);
     };

@@ -7,8 +7,8 @@ use sheet::EVENTS;
 use sheet::MODULES;
 use sheet::NODES;
 use sheet::WATCHED;
+use tick::Carried;
 use tick::Shape;
-use tick::Standing;
 use tick::TABLE;
 use tick::work;
 ghost use mathlib.Core.Path.{_≡_};
@@ -53,7 +53,7 @@ pub(crate) fn ticks(
     let mut due: usize = 0;
     let mut n: usize = 0;
     while t < horizon {
-        let before = Standing { next, pending: due };
+        let before = Carried { next, pending: due };
         let after = work(
             shape,
             horizon,
