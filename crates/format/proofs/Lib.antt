@@ -12,6 +12,8 @@ pub mod Checked
 pub mod Accepted
 pub mod Loop
 pub mod Order
+pub mod OneToOne
+pub mod Undriven
 pub mod AllBytes
 pub mod EncodeSpan
 pub mod EncodeNumber

@@ -1,4 +1,5 @@
--- What holds of a sheet that a check does not refuse, whatever the order in which it is read: all that document 01's refusals 2 to 18 rule out.
+-- What holds of a sheet that a check does not refuse, whatever the order in which it is read:
+-- all that document 01's refusals 2 to 18 rule out.
 use mathlib.Core.List.{List, List·Memᴰ}
 use mathlib.Core.Logic.{_⊎_}
 use mathlib.Core.Path.{_≡_}
@@ -81,7 +82,8 @@ pub record Accepted (S : Sheet) : Type 0 where
 pub data Known : Edition → Type 0 where
   the-first : Known firstEdition
 
--- Bytes that a check does not refuse in an edition: such a sheet stands in them, its kinds are the edition's, and no byte is missing and none is left over.
+-- Bytes that a check does not refuse in an edition: such a sheet stands in them, its kinds are the edition's,
+-- and no byte is missing and none is left over.
 pub record AcceptedIn (e : Edition) (s : List ℕ) : Type 0 where
   pub sheet : Accepted (sheetOf e s)
   pub kinds : (m : ℕ) → m < moduleCount (sheetOf e s) → moduleOf (sheetOf e s) m .kind ≤ e .greatest

@@ -53,6 +53,7 @@ pub record Encodable (sheet : Sheet) : Type 0 where
 -- and every other number has one byte
 pub record OneByteEach (sheet : Sheet) : Type 0 where
   pub nodes : (b : ℕ) → List·Memᴰ b (sheet .nodes) → b < 256
-  pub modules : (m : Module) → List·Memᴰ m (sheet .modules) → (m .kind < 256) × (m .parameter < 256) × (m .output < 256) × (m .first < 256) × (m .second < 256)
+  pub modules : (m : Module) → List·Memᴰ m (sheet .modules)
+      → (m .kind < 256) × (m .parameter < 256) × (m .output < 256) × (m .first < 256) × (m .second < 256)
   pub drive : (e : Event) → List·Memᴰ e (sheet .drive) → (e .node < 256) × (e .value < 256)
   pub watched : (b : ℕ) → List·Memᴰ b (sheet .watched) → b < 256

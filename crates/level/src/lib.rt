@@ -9,8 +9,10 @@ ghost use Rattle.level.specs.Rule.{inputsOf, comesTo};
 ghost use Rattle.level.specs.Kind.{ruleOf};
 ghost use Rattle.level.specs.Table.{tableStart, tables};
 
-// The last kind that has a rule, and the kind of a memory.
+// The last kind that has a rule, and the kinds of a constant and of a memory.
 pub const LAST_KIND: u8 = 9;
+
+pub const CONSTANT: u8 = 0;
 
 pub const MEMORY: u8 = 9;
 
@@ -20,144 +22,141 @@ pub const LAST_OF_ONE: u8 = 2;
 // The entries of all tables.
 pub const TABLE_ENTRIES: usize = 104;
 
-// The bytes that print the values, by value.
-const PRINTED: [u8; 4] = [b'0', b'1', b'X', b'Z'];
-
 // The weight of each value in a memory's set.
 const WEIGHTS: [u8; 4] = [1, 2, 4, 8];
 
 // Kinds 1 and 2, 4 entries each, by the input's value; then kinds 3 to 8, 16 entries each, by the first input's value, then the second's.
 const TABLES: [u8; TABLE_ENTRIES] = [
     // 1 buffer
-    0,
-    1,
-    2,
-    2,
+    Level::LOW,
+    Level::HIGH,
+    Level::UNKNOWN,
+    Level::UNKNOWN,
     // 2 inverter
-    1,
-    0,
-    2,
-    2,
+    Level::HIGH,
+    Level::LOW,
+    Level::UNKNOWN,
+    Level::UNKNOWN,
     // 3 AND, first input 0
-    0,
-    0,
-    0,
-    0,
+    Level::LOW,
+    Level::LOW,
+    Level::LOW,
+    Level::LOW,
     // 3 AND, first input 1
-    0,
-    1,
-    2,
-    2, // AND(1, Z)
+    Level::LOW,
+    Level::HIGH,
+    Level::UNKNOWN,
+    Level::UNKNOWN, // AND(1, Z)
     // 3 AND, first input X
-    0,
-    2,
-    2,
-    2,
+    Level::LOW,
+    Level::UNKNOWN,
+    Level::UNKNOWN,
+    Level::UNKNOWN,
     // 3 AND, first input Z
-    0,
-    2,
-    2,
-    2,
+    Level::LOW,
+    Level::UNKNOWN,
+    Level::UNKNOWN,
+    Level::UNKNOWN,
     // 4 OR, first input 0
-    0,
-    1,
-    2,
-    2,
+    Level::LOW,
+    Level::HIGH,
+    Level::UNKNOWN,
+    Level::UNKNOWN,
     // 4 OR, first input 1
-    1,
-    1,
-    1,
-    1,
+    Level::HIGH,
+    Level::HIGH,
+    Level::HIGH,
+    Level::HIGH,
     // 4 OR, first input X
-    2,
-    1,
-    2,
-    2,
+    Level::UNKNOWN,
+    Level::HIGH,
+    Level::UNKNOWN,
+    Level::UNKNOWN,
     // 4 OR, first input Z
-    2,
-    1,
-    2,
-    2,
+    Level::UNKNOWN,
+    Level::HIGH,
+    Level::UNKNOWN,
+    Level::UNKNOWN,
     // 5 XOR, first input 0
-    0,
-    1,
-    2,
-    2,
+    Level::LOW,
+    Level::HIGH,
+    Level::UNKNOWN,
+    Level::UNKNOWN,
     // 5 XOR, first input 1
-    1,
-    0,
-    2,
-    2,
+    Level::HIGH,
+    Level::LOW,
+    Level::UNKNOWN,
+    Level::UNKNOWN,
     // 5 XOR, first input X
-    2,
-    2,
-    2,
-    2,
+    Level::UNKNOWN,
+    Level::UNKNOWN,
+    Level::UNKNOWN,
+    Level::UNKNOWN,
     // 5 XOR, first input Z
-    2,
-    2,
-    2,
-    2,
+    Level::UNKNOWN,
+    Level::UNKNOWN,
+    Level::UNKNOWN,
+    Level::UNKNOWN,
     // 6 NAND, first input 0
-    1,
-    1,
-    1,
-    1,
+    Level::HIGH,
+    Level::HIGH,
+    Level::HIGH,
+    Level::HIGH,
     // 6 NAND, first input 1
-    1,
-    0,
-    2,
-    2,
+    Level::HIGH,
+    Level::LOW,
+    Level::UNKNOWN,
+    Level::UNKNOWN,
     // 6 NAND, first input X
-    1,
-    2,
-    2,
-    2,
+    Level::HIGH,
+    Level::UNKNOWN,
+    Level::UNKNOWN,
+    Level::UNKNOWN,
     // 6 NAND, first input Z
-    1,
-    2,
-    2,
-    2,
+    Level::HIGH,
+    Level::UNKNOWN,
+    Level::UNKNOWN,
+    Level::UNKNOWN,
     // 7 NOR, first input 0
-    1,
-    0,
-    2,
-    2,
+    Level::HIGH,
+    Level::LOW,
+    Level::UNKNOWN,
+    Level::UNKNOWN,
     // 7 NOR, first input 1
-    0,
-    0,
-    0,
-    0,
+    Level::LOW,
+    Level::LOW,
+    Level::LOW,
+    Level::LOW,
     // 7 NOR, first input X
-    2,
-    0,
-    2,
-    2,
+    Level::UNKNOWN,
+    Level::LOW,
+    Level::UNKNOWN,
+    Level::UNKNOWN,
     // 7 NOR, first input Z
-    2,
-    0,
-    2,
-    2,
+    Level::UNKNOWN,
+    Level::LOW,
+    Level::UNKNOWN,
+    Level::UNKNOWN,
     // 8 clocked inverter, first input 0
-    3,
-    1,
-    3,
-    3,
+    Level::NONE,
+    Level::HIGH,
+    Level::NONE,
+    Level::NONE,
     // 8 clocked inverter, first input 1
-    3,
-    0,
-    3,
-    3,
+    Level::NONE,
+    Level::LOW,
+    Level::NONE,
+    Level::NONE,
     // 8 clocked inverter, first input X
-    3,
-    2,
-    3,
-    3,
+    Level::NONE,
+    Level::UNKNOWN,
+    Level::NONE,
+    Level::NONE,
     // 8 clocked inverter, first input Z
-    3,
-    2,
-    3,
-    3,
+    Level::NONE,
+    Level::UNKNOWN,
+    Level::NONE,
+    Level::NONE,
 ];
 
 // The values and what is done with them; a value is a byte, 0 to 3.
@@ -176,7 +175,12 @@ impl Level {
     pub fn printed(value: u8) -> u8
         ensures { λ r. ⌜ r ≡ printed (value % 4) ⌝ }
     {
-        PRINTED[(value % 4) as usize]
+        match value % 4 {
+            Level::LOW => b'0',
+            Level::HIGH => b'1',
+            Level::UNKNOWN => b'X',
+            _ => b'Z',
+        }
     }
 
     // Whether a memory's set has a value. Only the value's two low bits count.
@@ -220,7 +224,7 @@ impl Level {
     pub fn gate(kind: u8, first: u8, second: u8) -> u8
         ensures { λ r. ⌜ r ≡ comesTo (ruleOf kind 0) (take (inputsOf (ruleOf kind 0)) (first % 4 ∷ second % 4 ∷ [])) 0 ⌝ }
     {
-        if kind == 0 {
+        if kind == CONSTANT {
             Level::LOW
         } else if kind <= LAST_OF_ONE {
             TABLES[Level::start_of_one(kind) + (first % 4) as usize]

@@ -12,4 +12,5 @@ recordOf r = record { tick = r .tick; node = r .node; value = r .value }
 
 -- records from number n on, and the rest as it was
 abbrev pub written : ℕ → List Record → List ℕ → List ℕ
-written n records listing = take (recordSize * n) listing ++ allBytes recordBytes records ++ drop (recordSize * (n + length records)) listing
+written n records listing =
+    take (recordSize * n) listing ++ allBytes recordBytes records ++ drop (recordSize * (n + length records)) listing

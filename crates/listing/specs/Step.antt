@@ -27,6 +27,10 @@ pub record NoRoom (listing : List ℕ) (n t : ℕ) (watched values shown listing
 abbrev pub StepOf : List ℕ → ℕ → ℕ → List ℕ → List ℕ → List ℕ → ℕ → Step → List ℕ → List ℕ → Type 0
 StepOf listing n t watched values shown pending Full listing′ shown′ = NoRoom listing n t watched values shown listing′ shown′
 StepOf listing n t watched values shown pending (Crowded count) listing′ shown′ =
-    (n + length (fresh t values shown watched) ≤ room (length listing)) × (pendingLimit < pending) × RecordsWritten listing n t watched values shown count listing′ shown′
+    (n + length (fresh t values shown watched) ≤ room (length listing))
+    × (pendingLimit < pending)
+    × RecordsWritten listing n t watched values shown count listing′ shown′
 StepOf listing n t watched values shown pending (Next count) listing′ shown′ =
-    (n + length (fresh t values shown watched) ≤ room (length listing)) × (pending ≤ pendingLimit) × RecordsWritten listing n t watched values shown count listing′ shown′
+    (n + length (fresh t values shown watched) ≤ room (length listing))
+    × (pending ≤ pendingLimit)
+    × RecordsWritten listing n t watched values shown count listing′ shown′

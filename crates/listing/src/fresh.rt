@@ -49,8 +49,11 @@ pub(crate) fn write_fresh(
     values: &[u8; NODES],
     shown: &[u8; NODES],
 ) -> usize
-    requires { ⌜ (n ≤ mostWatched) × (length (now watched) ≡ mostWatched) × (recordSize * (at + length (fresh t (now values) (now shown) (take n (now watched)))) ≤ length (now listing)) ⌝ }
-    ensures { λ r. ⌜ (r ≡ at + length (fresh t (now (values .entry)) (now (shown .entry)) (take n (now (watched .entry))))) × (now (listing .exit) ≡ written at (fresh t (now (values .entry)) (now (shown .entry)) (take n (now (watched .entry)))) (now (listing .entry))) ⌝ }
+    requires { ⌜ (n ≤ mostWatched) × (length (now watched) ≡ mostWatched)
+        × (recordSize * (at + length (fresh t (now values) (now shown) (take n (now watched)))) ≤ length (now listing)) ⌝ }
+    ensures { λ r. ⌜ (r ≡ at + length (fresh t (now (values .entry)) (now (shown .entry)) (take n (now (watched .entry)))))
+        × (now (listing .exit)
+        ≡ written at (fresh t (now (values .entry)) (now (shown .entry)) (take n (now (watched .entry)))) (now (listing .entry))) ⌝ }
 {
     let mut c = at;
     let mut k: usize = 0;
@@ -74,7 +77,8 @@ pub(crate) fn show_all(
     shown: &mut [u8; NODES],
 )
     requires { ⌜ (n ≤ mostWatched) × (length (now watched) ≡ mostWatched) × (length (now shown) ≡ mostNodes) ⌝ }
-    ensures { λ _. ⌜ (now (shown .exit) ≡ showAll (now (values .entry)) (now (shown .entry)) (take n (now (watched .entry)))) × (length (now (shown .exit)) ≡ mostNodes) ⌝ }
+    ensures { λ _. ⌜ (now (shown .exit) ≡ showAll (now (values .entry)) (now (shown .entry)) (take n (now (watched .entry))))
+        × (length (now (shown .exit)) ≡ mostNodes) ⌝ }
 {
     let mut k: usize = 0;
     while k < n {

@@ -41,8 +41,11 @@ fn write(
     shown: &mut [u8; NODES],
     records: usize,
 ) -> usize
-    requires { ⌜ (count ≤ mostWatched) × (length (now watched) ≡ mostWatched) × (length (now shown) ≡ mostNodes) × (records ≡ length (fresh t (now values) (now shown) (take count (now watched)))) × (recordSize * (n + records) ≤ length (now listing)) ⌝ }
-    ensures { λ r. ⌜ RecordsWritten (now (listing .entry)) n t (take count (now (watched .entry))) (now (values .entry)) (now (shown .entry)) r (now (listing .exit)) (now (shown .exit)) ⌝ }
+    requires { ⌜ (count ≤ mostWatched) × (length (now watched) ≡ mostWatched) × (length (now shown) ≡ mostNodes)
+        × (records ≡ length (fresh t (now values) (now shown) (take count (now watched))))
+        × (recordSize * (n + records) ≤ length (now listing)) ⌝ }
+    ensures { λ r. ⌜ RecordsWritten (now (listing .entry)) n t (take count (now (watched .entry))) (now (values .entry))
+        (now (shown .entry)) r (now (listing .exit)) (now (shown .exit)) ⌝ }
 {
     if records == 0 {
         return n;
@@ -64,7 +67,8 @@ pub fn list(
     pending: usize,
 ) -> Step
     requires { ⌜ (count ≤ mostWatched) × (length (now watched) ≡ mostWatched) × (length (now shown) ≡ mostNodes) ⌝ }
-    ensures { λ r. ⌜ StepOf (now (listing .entry)) n t (take count (now (watched .entry))) (now (values .entry)) (now (shown .entry)) pending r (now (listing .exit)) (now (shown .exit)) ⌝ }
+    ensures { λ r. ⌜ StepOf (now (listing .entry)) n t (take count (now (watched .entry))) (now (values .entry)) (now (shown .entry))
+        pending r (now (listing .exit)) (now (shown .exit)) ⌝ }
 {
     let records = count_fresh(watched, count, values, &*shown);
     let room = listing.len() / RECORD_SIZE;

@@ -28,7 +28,8 @@ pub fn load_modules(
     delays: &mut [u16; MODULES],
 )
     requires { ⌜ (n ≤ mostModules) × (length (now table) ≡ tableSize) × (length (now delays) ≡ mostModules) ⌝ }
-    ensures { λ _. ⌜ (modulesIn (now (table .exit)) (now (delays .exit)) n ≡ take n records) × (length (now (table .exit)) ≡ tableSize) × (length (now (delays .exit)) ≡ mostModules) ⌝ }
+    ensures { λ _. ⌜ (modulesIn (now (table .exit)) (now (delays .exit)) n ≡ take n records) × (length (now (table .exit)) ≡ tableSize)
+        × (length (now (delays .exit)) ≡ mostModules) ⌝ }
 {
     let mut k: usize = 0;
     while k < n {
@@ -45,8 +46,11 @@ pub fn load_drive(
     nodes: &mut [u8; EVENTS],
     levels: &mut [u8; EVENTS],
 )
-    requires { ⌜ (n ≤ mostEvents) × (length (now ticks) ≡ mostEvents) × (length (now nodes) ≡ mostEvents) × (length (now levels) ≡ mostEvents) ⌝ }
-    ensures { λ _. ⌜ (driveIn (now (ticks .exit)) (now (nodes .exit)) (now (levels .exit)) n ≡ take n drive) × (length (now (ticks .exit)) ≡ mostEvents) × (length (now (nodes .exit)) ≡ mostEvents) × (length (now (levels .exit)) ≡ mostEvents) ⌝ }
+    requires { ⌜ (n ≤ mostEvents) × (length (now ticks) ≡ mostEvents) × (length (now nodes) ≡ mostEvents)
+        × (length (now levels) ≡ mostEvents) ⌝ }
+    ensures { λ _. ⌜ (driveIn (now (ticks .exit)) (now (nodes .exit)) (now (levels .exit)) n ≡ take n drive)
+        × (length (now (ticks .exit)) ≡ mostEvents) × (length (now (nodes .exit)) ≡ mostEvents)
+        × (length (now (levels .exit)) ≡ mostEvents) ⌝ }
 {
     let mut e: usize = 0;
     while e < n {
@@ -106,7 +110,8 @@ pub fn load_last(
     last: &mut [u8; MODULES],
 )
     requires { ⌜ (n ≤ mostModules) × Levels (now values) × Levels (now last) ⌝ }
-    ensures { λ _. ⌜ ((k : ℕ) → k < n → getD (now (last .exit)) k 0 ≡ getD (now (values .entry)) (moduleIn records k .output) 0) × Levels (now (last .exit)) ⌝ }
+    ensures { λ _. ⌜ ((k : ℕ) → k < n → getD (now (last .exit)) k 0 ≡ getD (now (values .entry)) (moduleIn records k .output) 0)
+        × Levels (now (last .exit)) ⌝ }
 {
     let mut k: usize = 0;
     while k < n {

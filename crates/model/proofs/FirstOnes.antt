@@ -11,7 +11,8 @@ use Prim.Native.Nat.{ℕ, zero, suc, _+_, _<_}
 use Rattle.level.specs.Choice.{if_then_else_}
 use Rattle.sheet.specs.Enumerate.{each}
 use Rattle.network.proofs.Count.{count, count-at-most}
-use Rattle.network.proofs.Listed.{OneToOne, each-reordered}
+use Rattle.format.proofs.OneToOne.{OneToOne}
+use Rattle.network.proofs.Listed.{each-reordered}
 
 -- the count as a length, and so in any order
 abbrev marked : Bool → List ℕ

@@ -1,4 +1,5 @@
--- The passes of a tick over the changes that are due, over the modules of delay zero and over the delayed ones. Modules go by their position in the working order.
+-- The passes of a tick over the changes that are due, over the modules of delay zero and over the delayed ones.
+-- Modules go by their position in the working order.
 use mathlib.Core.List.{List, [], _∷_, map}
 use Prim.Native.Nat.{ℕ, zero, suc, _+_}
 use lib.Dec.{eqb, ltb}
@@ -68,4 +69,5 @@ scheduleOne store modules t horizon values st k =
 -- the first k delayed modules
 unfoldable pub schedule : (store : Store) → List Module → ℕ → ℕ → List ℕ → ℕ → Scheduled store → Scheduled store
 schedule store modules t horizon values zero st = st
-schedule store modules t horizon values (suc k) st = scheduleOne store modules t horizon values (schedule store modules t horizon values k st) k
+schedule store modules t horizon values (suc k) st =
+    scheduleOne store modules t horizon values (schedule store modules t horizon values k st) k

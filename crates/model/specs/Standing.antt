@@ -1,4 +1,5 @@
--- What the run keeps before a tick, in terms of the cells: present values are the cells of the tick before, and the pending changes are those that these cells owe.
+-- What the run keeps before a tick, in terms of the cells: present values are the cells of the tick before,
+-- and the pending changes are those that these cells owe.
 use lib.Dec.{T}
 use lib.ListN.{length, getD}
 use mathlib.Core.List.{List, [], List·Memᴰ}

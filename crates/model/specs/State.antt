@@ -54,8 +54,15 @@ abbrev pub tick : (store : Store) → Loaded → ℕ → ℕ → State store →
 tick store l horizon t st =
     let settled = settle (l .modules) (l .delayed) (length (l .modules) - l .delayed)
     (record { values = giveAll (l .modules) (store .due (st .pending) t) (driveTick (l .drive) t (st .values)); last = st .last }) in
-    let scheduled = schedule store (l .modules) t horizon (settled .values) (l .delayed) (record { last = settled .last; pending = store .rest (st .pending) t }) in
+    let scheduled = schedule store (l .modules) t horizon (settled .values) (l .delayed)
+    (record { last = settled .last; pending = store .rest (st .pending) t }) in
     record {
-      state = record { values = settled .values; last = scheduled .last; shown = showAll (settled .values) (st .shown) (l .watched); pending = scheduled .pending };
+      state =
+          record {
+            values = settled .values;
+            last = scheduled .last;
+            shown = showAll (settled .values) (st .shown) (l .watched);
+            pending = scheduled .pending;
+          };
       records = fresh t (settled .values) (st .shown) (l .watched);
     }

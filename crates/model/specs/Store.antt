@@ -33,7 +33,8 @@ pub record Store : Type 1 where
   -- the laws
   pub holds-nothing : Holds nothing []
   pub holds-put : (k : Kept) (held : List Change) (t : ℕ) (x : Change) → Holds k held → Fits t held x → Holds (put k x) (held ++ x ∷ [])
-  pub tells-due : (k : Kept) (held : List Change) (t : ℕ) → Holds k held → (x : Change) → List·Memᴰ x (due k t) ↔ (List·Memᴰ x held × (x .due ≡ t))
+  pub tells-due : (k : Kept) (held : List Change) (t : ℕ) → Holds k held → (x : Change)
+      → List·Memᴰ x (due k t) ↔ (List·Memᴰ x held × (x .due ≡ t))
   pub holds-rest : (k : Kept) (held : List Change) (t : ℕ) → Holds k held → Holds (rest k t) (notDue t held)
   pub rest-same : (k : Kept) (held : List Change) (t : ℕ) → Holds k held → due k t ≡ [] → rest k t ≡ k
   pub counts : (k : Kept) (held : List Change) → Holds k held → count k ≡ length held

@@ -37,4 +37,5 @@ stateAt store S horizon st (suc t) = tickOf store S horizon t (stateAt store S h
 
 unfoldable pub recordsBelow : (store : Store) → Sheet → ℕ → State store → ℕ → List Record
 recordsBelow store S horizon st zero = []
-recordsBelow store S horizon st (suc t) = recordsBelow store S horizon st t ++ tickOf store S horizon t (stateAt store S horizon st t) .records
+recordsBelow store S horizon st (suc t) =
+    recordsBelow store S horizon st t ++ tickOf store S horizon t (stateAt store S horizon st t) .records

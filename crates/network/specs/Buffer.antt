@@ -1,4 +1,5 @@
--- Document 01, "The listing": a record's bytes, how many records a buffer takes, and what it holds once they are written. Nothing else knows a record's size.
+-- Document 01, "The listing": a record's bytes, how many records a buffer takes, and what it holds once they are written.
+-- Nothing else knows a record's size.
 use mathlib.Core.List.{List, [], _∷_, _++_}
 use Prim.Native.Nat.{ℕ, _+_, _*_, _/_}
 use lib.ListN.{length, drop}

@@ -43,7 +43,8 @@ pub record Pending : Type 0 where
 -- those of a module after tick t: ticks u above t, at most t + d and below the horizon, where its output's cell u differs from cell u - 1
 abbrev pub pendingOf : Sheet → Cells → ℕ → ℕ → ℕ → List Pending
 pendingOf S c horizon t m =
-    each (moduleOf S m .delay) (λ k. if ltb (t + suc k) horizon && changes c (outputOf S m) (t + suc k) then record { driver = m; due = t + suc k } ∷ [] else [])
+    each (moduleOf S m .delay)
+    (λ k. if ltb (t + suc k) horizon && changes c (outputOf S m) (t + suc k) then record { driver = m; due = t + suc k } ∷ [] else [])
 
 -- the changes pending after tick t
 abbrev pub pending : Sheet → Cells → ℕ → ℕ → List Pending

@@ -1,4 +1,5 @@
--- Document 01, "Working and renumbering": a sheet with its nodes renumbered, its modules listed in another order, and its drive and watched nodes sorted again.
+-- Document 01, "Working and renumbering": a sheet with its nodes renumbered, its modules listed in another order,
+-- and its drive and watched nodes sorted again.
 use mathlib.Core.List.{List, [], _∷_, map}
 use mathlib.Core.Path.{_≡_}
 use Prim.Native.Nat.{ℕ, _<_}
@@ -16,7 +17,7 @@ use Rattle.sheet.specs.Refusal.{key}
 use Rattle.format.specs.Encode.{encode}
 use Rattle.network.specs.Listing.{Record, recordKey}
 
--- a permutation of the numbers below n: each gets another, and back
+-- a permutation of the numbers below n: each gets a number, no two the same, and back
 pub record Permutation (n : ℕ) : Type 0 where
   pub to : ℕ → ℕ
   pub from : ℕ → ℕ
@@ -50,7 +51,8 @@ renumberedModule to m =
 abbrev pub renumberedEvent : (ℕ → ℕ) → Event → Event
 renumberedEvent to e = record { tick = e .tick; node = to (e .node); value = e .value }
 
--- A node's byte stands at its new number; the modules stand in the listed order; the drive is sorted by tick, then by node, the watched nodes by number.
+-- A node's byte stands at its new number; the modules stand in the listed order; the drive is sorted by tick, then by node,
+-- the watched nodes by number.
 -- No record is added or lost.
 unfoldable pub renumbered : Sheet → (to from : ℕ → ℕ) → List ℕ → Sheet
 renumbered S to from order =

@@ -1,5 +1,6 @@
 -- Document 01, "Working and renumbering": a set of timelines gives every node one cell for each tick below the horizon.
--- It satisfies the sheet if each input's cells are those of the drive and each driven node's cells those of its equation, initial values included.
+-- It satisfies the sheet if each input's cells are those of the drive and each driven node's cells those of its equation,
+-- initial values included.
 use lib.Dec.{T}
 use mathlib.Core.Path.{_≡_}
 use Prim.Native.Nat.{ℕ, _<_}

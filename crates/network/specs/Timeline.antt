@@ -60,4 +60,5 @@ inputCells c m u = map (c u) (usedInputs m)
 
 -- What a module gives its output node over cells. A node has one driver, and its equation is that its cells are those.
 abbrev pub contribution : Sheet → Cells → ℕ → Timeline
-contribution S c m t = outputCell (moduleRule (moduleOf S m)) (moduleOf S m .delay) (inputCells c (moduleOf S m)) (nodeByte S (outputOf S m)) t
+contribution S c m t =
+    outputCell (moduleRule (moduleOf S m)) (moduleOf S m .delay) (inputCells c (moduleOf S m)) (nodeByte S (outputOf S m)) t

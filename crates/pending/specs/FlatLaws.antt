@@ -31,11 +31,13 @@ module _ (t : ℕ) where
   unfolding flatDue
   due-one p k = ap (λ (y : Change). if eqb (y .due) t then y ∷ flatDue k t else flatDue k t) (told p)
 
-  rest-one : {x : Change} → Packable x → (k : List ℕ) → flatRest (packed x ∷ k) t ≡ (if eqb (x .due) t then flatRest k t else packed x ∷ flatRest k t)
+  rest-one : {x : Change} → Packable x → (k : List ℕ)
+      → flatRest (packed x ∷ k) t ≡ (if eqb (x .due) t then flatRest k t else packed x ∷ flatRest k t)
   unfolding flatRest
   rest-one {x} p k = ap (λ (y : Change). if eqb (y .due) t then flatRest k t else packed x ∷ flatRest k t) (told p)
 
-  pub due-held : {k : List ℕ} {held : List Change} → FlatHolds k held → {x : Change} → List·Memᴰ x (flatDue k t) → List·Memᴰ x held × (x .due ≡ t)
+  pub due-held : {k : List ℕ} {held : List Change} → FlatHolds k held
+      → {x : Change} → List·Memᴰ x (flatDue k t) → List·Memᴰ x held × (x .due ≡ t)
   unfolding flatDue
   due-held none m = absurd (List·Memᴰ·not-nil m)
   due-held (one {x = y} {k = k} {held = held} p h) {x} m = go (eqb (y .due) t) refl (λ n. due-held h n) (rw (due-one p k) at m)
@@ -46,7 +48,8 @@ module _ (t : ℕ) where
       go true e later (List·Memᴰ·tail n) = (List·Memᴰ·tail (later n .0), later n .1)
       go false e later n = (List·Memᴰ·tail (later n .0), later n .1)
 
-  pub held-due : {k : List ℕ} {held : List Change} → FlatHolds k held → {x : Change} → List·Memᴰ x held → x .due ≡ t → List·Memᴰ x (flatDue k t)
+  pub held-due : {k : List ℕ} {held : List Change} → FlatHolds k held
+      → {x : Change} → List·Memᴰ x held → x .due ≡ t → List·Memᴰ x (flatDue k t)
   held-due none m d = absurd (List·Memᴰ·not-nil m)
   held-due (one {x = y} {k = k} p h) (List·Memᴰ·head i) d =
       rw (due-one p k, eq-eqb (y .due) t (ap (λ (z : Change). z .due) (sym i) ∙ d)) (List·Memᴰ·head i)

@@ -1,4 +1,5 @@
--- The arrangement of the pending changes that the run uses, and how an array holds it. Other crates name these and nothing of the arrangement's own.
+-- The arrangement of the pending changes that the run uses, and how an array holds it.
+-- Other crates name these and nothing of the arrangement's own.
 use mathlib.Core.List.{List}
 use mathlib.Core.Path.{_≡_}
 use Prim.Native.Nat.{ℕ}

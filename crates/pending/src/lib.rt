@@ -37,7 +37,8 @@ pub fn empty() -> Store
 pub fn put(store: &mut Store, count: usize, due: u32, position: usize, value: u8) -> usize
     requires { ⌜ (count < pendingRoom) × (due < 2 ^ 22) × (position < 256) × (value < 4) × Sized (now store) ⌝ }
     ensures { λ r. ⌜
-        (keptIn (now (store .exit)) r ≡ arrangement .put (keptIn (now (store .entry)) count) (record { due = due; position = position; value = value }))
+        (keptIn (now (store .exit)) r
+        ≡ arrangement .put (keptIn (now (store .entry)) count) (record { due = due; position = position; value = value }))
         × (r ≡ count + 1) × Sized (now (store .exit)) ⌝ }
 {
     store[count] = due * 1024 + (position as u32) * 4 + (value as u32);

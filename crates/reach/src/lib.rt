@@ -94,7 +94,8 @@ fn join_row(reach: &mut [bool; LINKS], row: &[bool; NODES], u: usize)
 // If node u leads to node k, it leads where the row says.
 fn join_over(reach: &mut [bool; LINKS], row: &[bool; NODES], u: usize, k: usize)
     requires { ⌜ (length (now reach) ≡ matrixSize) × (u < mostNodes) × (k < mostNodes) ⌝ }
-    ensures { λ _. ⌜ Adds (now (reach .entry)) (λ a v. eqb a u && (entry (now (reach .entry)) a k && getD (now (row .entry)) v false)) (now (reach .exit)) ⌝ }
+    ensures { λ _. ⌜ Adds (now (reach .entry)) (λ a v. eqb a u && (entry (now (reach .entry)) a k && getD (now (row .entry)) v false))
+        (now (reach .exit)) ⌝ }
 {
     if reach[NODES * u + k] {
         join_row(reach, row, u);
@@ -104,7 +105,8 @@ fn join_over(reach: &mut [bool; LINKS], row: &[bool; NODES], u: usize, k: usize)
 // Every node that leads to node k leads where that leads.
 fn close_over(reach: &mut [bool; LINKS], k: usize)
     requires { ⌜ (length (now reach) ≡ matrixSize) × (k < mostNodes) ⌝ }
-    ensures { λ _. ⌜ Adds (now (reach .entry)) (λ a v. entry (now (reach .entry)) a k && entry (now (reach .entry)) k v) (now (reach .exit)) ⌝ }
+    ensures { λ _. ⌜ Adds (now (reach .entry)) (λ a v. entry (now (reach .entry)) a k && entry (now (reach .entry)) k v)
+        (now (reach .exit)) ⌝ }
 {
     let row = row_of(reach, k);
     let mut u: usize = 0;
@@ -136,7 +138,7 @@ pub fn closure(reach: &mut [bool; LINKS], modules: [Module; MODULES], n: u16, no
 }
 
 // The least node that leads to itself.
-pub fn least(reach: &[bool; LINKS], nodes: u16) -> Answer
+pub fn least_on_loop(reach: &[bool; LINKS], nodes: u16) -> Answer
     ensures { λ r. ⌜ outcomeOf r ≡ first (each (min nodes mostNodes) (diagonalRows (entry (now (reach .entry))))) ⌝ }
 {
     let n = cut(nodes) as usize;
@@ -156,5 +158,5 @@ pub fn loop_refusal(modules: [Module; MODULES], n: u16, nodes: u16) -> Answer
 {
     let mut reach = [false; LINKS];
     closure(&mut reach, modules, n, nodes);
-    least(&reach, nodes)
+    least_on_loop(&reach, nodes)
 }

@@ -21,8 +21,10 @@ RecordTold rows event (Refused number place) = first rows ≡ refused number pla
 abbrev pub keyAt : Edition → List ℕ → ℕ → ℕ
 keyAt e s k = key (eventAt e s k)
 
--- of the event that stands at a place, where the nodes are counted, those that modules drive are flagged, and the least key that it may have is known
+-- of the event that stands at a place, where the nodes are counted, those that modules drive are flagged,
+-- and the least key that it may have is known
 abbrev pub EventTold : List ℕ → ℕ → ℕ → List Bool → ℕ → EventChecked → Type 0
 EventTold s at nodes driven least r =
-    (e : Edition) (k : ℕ) → at ≡ eventPlace e s k → nodes ≡ nodesCounted s → Flags driven (isDriven (sheetOf e s)) → least ≡ leastAfter (keyAt e s) k
+    (e : Edition) (k : ℕ) → at ≡ eventPlace e s k → nodes ≡ nodesCounted s
+    → Flags driven (isDriven (sheetOf e s)) → least ≡ leastAfter (keyAt e s) k
     → RecordTold (eventRows e s k) (eventAt e s k) r

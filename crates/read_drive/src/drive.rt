@@ -2,9 +2,9 @@
 use crate::event::EventChecked;
 use crate::event::event_checked;
 use crate::event::order_key;
-use crate::starts::begun_before;
-use crate::starts::first_events;
-use crate::starts::mark;
+use crate::first_events::begun_before;
+use crate::first_events::first_events;
+use crate::first_events::mark;
 use read_nodes::count_refusal;
 use sheet::Answer;
 use sheet::COUNT_SIZE;
@@ -56,8 +56,10 @@ pub fn drive_section(
     nodes: u16,
     driven: &[bool; NODES],
 ) -> DriveRead
-    requires { ⌜ (place ≡ drivePlace e (now s)) × (place ≤ 100000) × (nodes ≡ nodesCounted (now s)) × (nodes ≤ mostNodes) × Flags (now driven) (isDriven (sheetOf e (now s))) ⌝ }
-    ensures { λ r. ⌜ SectionRead (rowsOf e (now (s .entry)) 2) mostEvents noEvent (eventsCounted e (now (s .entry))) (eventAt e (now (s .entry))) (outcomeOf (r .answer)) (r .count) (r .drive) ⌝ }
+    requires { ⌜ (place ≡ drivePlace e (now s)) × (place ≤ 100000) × (nodes ≡ nodesCounted (now s)) × (nodes ≤ mostNodes)
+        × Flags (now driven) (isDriven (sheetOf e (now s))) ⌝ }
+    ensures { λ r. ⌜ SectionRead (rowsOf e (now (s .entry)) 2) mostEvents noEvent (eventsCounted e (now (s .entry)))
+        (eventAt e (now (s .entry))) (outcomeOf (r .answer)) (r .count) (r .drive) ⌝ }
 {
     let checked = count_refusal(s, place, 0, MOST_EVENTS);
     let a = checked.answer;

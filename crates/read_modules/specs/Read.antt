@@ -18,9 +18,11 @@ use Rattle.read_modules.specs.declared.section.ModulesRead.{ModulesRead}
 
 -- what is known where a row is met
 abbrev pub noneRead : Answer → ModulesRead
-noneRead answer = record { answer = answer; count = 0; modules = replicate mostModules noModule; driven = replicate mostNodes false; end = 0 }
+noneRead answer =
+    record { answer = answer; count = 0; modules = replicate mostModules noModule; driven = replicate mostNodes false; end = 0 }
 
--- Where none of the rows is met, the modules are known, the nodes that they drive are flagged, and the next section's place is known; otherwise nothing is.
+-- Where none of the rows is met, the modules are known, the nodes that they drive are flagged, and the next section's place is known;
+-- otherwise nothing is.
 pub record ModulesKnown (e : Edition) (s : List ℕ) (rows : List Row) (r : ModulesRead) : Type 0 where
   pub section : SectionRead rows mostModules noModule (modulesCounted s) (moduleAt e s) (outcomeOf (r .answer)) (r .count) (r .modules)
   pub driven : outcomeOf (r .answer) ≡ finished 0 → Flags (r .driven) (isDriven (sheetOf e s))

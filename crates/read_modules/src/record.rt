@@ -1,6 +1,8 @@
 // The refusals met in a module's record that was read whole.
+use level::CONSTANT;
 use level::MEMORY;
 use sheet::Answer;
+use sheet::LAST_VALUE;
 use sheet::LONGEST_DELAY;
 use sheet::Module;
 use sheet::NODES;
@@ -17,8 +19,8 @@ ghost use Rattle.read_modules.specs.Record.{recordRows};
 fn greatest_parameter(kind: u8) -> u8
     ensures { λ r. ⌜ r ≡ greatestParameter kind ⌝ }
 {
-    if kind == 0 {
-        return 3;
+    if kind == CONSTANT {
+        return LAST_VALUE;
     }
     if kind == MEMORY {
         return 15;

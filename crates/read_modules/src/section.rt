@@ -1,6 +1,6 @@
 // The modules' section.
+use crate::node_bytes::first_byte_refusal;
 use crate::record::record_refusal;
-use crate::starts::start_records;
 use read_nodes::count_refusal;
 use sheet::Answer;
 use sheet::COUNT_SIZE;
@@ -98,7 +98,8 @@ pub fn modules_section(
     count: u16,
     nodes: &[u8; NODES],
 ) -> ModulesRead
-    requires { ⌜ (place ≡ modulesPlace (now s)) × (count ≡ nodesCounted (now s)) × (count ≤ mostNodes) × (now nodes ≡ filled mostNodes 0 (listed (nodesCounted (now s)) (nodeAt (now s)))) ⌝ }
+    requires { ⌜ (place ≡ modulesPlace (now s)) × (count ≡ nodesCounted (now s)) × (count ≤ mostNodes)
+        × (now nodes ≡ filled mostNodes 0 (listed (nodesCounted (now s)) (nodeAt (now s)))) ⌝ }
     ensures { λ r. ⌜ ModulesKnown e (now (s .entry)) (rowsOf e (now (s .entry)) 1) r ⌝ }
 {
     let read = module_records(e, s, place, count);
@@ -107,7 +108,7 @@ pub fn modules_section(
         return read;
     };
     let driven = read.driven;
-    let b = start_records(nodes, count, &driven);
+    let b = first_byte_refusal(nodes, count, &driven);
     let Answer::Ran(_) = b else {
         return none_read(b);
     };

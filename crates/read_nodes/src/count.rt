@@ -14,7 +14,8 @@ pub struct CountChecked {
 
 // The count at a place, which is to be in a range.
 pub fn count_refusal(s: &[u8], place: u32, least: u16, most: u16) -> CountChecked
-    ensures { λ r. ⌜ CountTold (countRows (now (s .entry)) place least most) most (wordAt (now (s .entry)) place) (outcomeOf (r .answer)) (r .count) ⌝ }
+    ensures { λ r. ⌜ CountTold (countRows (now (s .entry)) place least most) most (wordAt (now (s .entry)) place) (outcomeOf (r .answer))
+        (r .count) ⌝ }
 {
     let CountRead::Whole(n) = sheet::count_at(s, place) else {
         return CountChecked {

@@ -56,7 +56,8 @@ fn node_checked(s: &[u8], at: u32) -> NodeChecked
 // The section, which stands first.
 pub fn nodes_section(s: &[u8], place: u32) -> NodesRead
     requires { ⌜ place ≡ 0 ⌝ }
-    ensures { λ r. ⌜ SectionRead (nodesSection (now (s .entry))) mostNodes 0 (nodesCounted (now (s .entry))) (nodeAt (now (s .entry))) (outcomeOf (r .answer)) (r .count) (r .nodes) ⌝ }
+    ensures { λ r. ⌜ SectionRead (nodesSection (now (s .entry))) mostNodes 0 (nodesCounted (now (s .entry))) (nodeAt (now (s .entry)))
+        (outcomeOf (r .answer)) (r .count) (r .nodes) ⌝ }
 {
     let checked = count_refusal(s, place, LEAST_NODES, MOST_NODES);
     let a = checked.answer;

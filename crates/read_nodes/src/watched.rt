@@ -53,7 +53,8 @@ fn watched_checked(s: &[u8], at: u32, nodes: u16, least: u16) -> NodeChecked
 // The section, which stands at a place, and the bytes left over after it.
 pub fn watched_section(e: Edition, s: &[u8], place: u32, nodes: u16) -> WatchedRead
     requires { ⌜ (place ≡ watchedPlace e (now s)) × (place ≤ 100000) × (nodes ≡ nodesCounted (now s)) ⌝ }
-    ensures { λ r. ⌜ SectionRead (rowsOf e (now (s .entry)) 3) mostWatched 0 (watchedCounted e (now (s .entry))) (watchedAt e (now (s .entry))) (outcomeOf (r .answer)) (r .count) (r .watched) ⌝ }
+    ensures { λ r. ⌜ SectionRead (rowsOf e (now (s .entry)) 3) mostWatched 0 (watchedCounted e (now (s .entry)))
+        (watchedAt e (now (s .entry))) (outcomeOf (r .answer)) (r .count) (r .watched) ⌝ }
 {
     let checked = count_refusal(s, place, 0, MOST_WATCHED);
     let a = checked.answer;

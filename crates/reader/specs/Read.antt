@@ -24,9 +24,12 @@ Held most blank n stands count records = (count ≡ n) × (count ≤ most) × (r
 abbrev pub SectionKnown : Edition → List ℕ → ℕ → Reading → Type 0
 SectionKnown e s zero c = Held mostNodes 0 (nodesCounted s) (nodeAt s) (c .contents .counts .nodes) (c .contents .nodes)
 SectionKnown e s (suc zero) c =
-    Held mostModules noModule (modulesCounted s) (moduleAt e s) (c .contents .counts .modules) (c .contents .modules) × Flags (c .driven) (isDriven (sheetOf e s))
-SectionKnown e s (suc (suc zero)) c = Held mostEvents noEvent (eventsCounted e s) (eventAt e s) (c .contents .counts .events) (c .contents .drive)
-SectionKnown e s (suc (suc (suc k))) c = Held mostWatched 0 (watchedCounted e s) (watchedAt e s) (c .contents .counts .watched) (c .contents .watched)
+    Held mostModules noModule (modulesCounted s) (moduleAt e s) (c .contents .counts .modules) (c .contents .modules)
+    × Flags (c .driven) (isDriven (sheetOf e s))
+SectionKnown e s (suc (suc zero)) c =
+    Held mostEvents noEvent (eventsCounted e s) (eventAt e s) (c .contents .counts .events) (c .contents .drive)
+SectionKnown e s (suc (suc (suc k))) c =
+    Held mostWatched 0 (watchedCounted e s) (watchedAt e s) (c .contents .counts .watched) (c .contents .watched)
 
 -- the first k sections are known
 abbrev pub SectionsKnown : Edition → List ℕ → ℕ → Reading → Type 0
@@ -60,7 +63,8 @@ pub record InRange (S : Sheet) : Type 0 where
   pub events : eventCount S ≤ mostEvents
   pub watched : watchedCount S ≤ mostWatched
 
--- A whole sheet is read: the answer is the first row of its bytes that is met. Without one, what the sheet holds is known; with one there is nothing.
+-- A whole sheet is read: the answer is the first row of its bytes that is met.
+-- Without one, what the sheet holds is known; with one there is nothing.
 pub record WholeRead (e : Edition) (s : List ℕ) (answer : Outcome) (c : Contents) : Type 0 where
   pub answered : answer ≡ first (bytesRows e s)
   pub held : answer ≡ finished 0 → Holds (sheetOf e s) c

@@ -1,4 +1,5 @@
-// The sheet reader, and a sheet read through it: four sections in their order. What stands in a section is read by functions over its bytes and place.
+// The sheet reader, and a sheet read through it: four sections in their order.
+// What stands in a section is read by functions over its bytes and place.
 mod sections;
 
 use crate::sections::DRIVE;
@@ -29,7 +30,8 @@ pub(crate) struct Section<'a> {
 // Reads the section of a number at the reader's offset.
 fn read_section<'a>(reader: SheetReader<'a>, which: u8, known: Reading) -> Section<'a>
     requires { ⌜ ReadTo (known .edition) (now (reader .bytes)) which known × (known .at ≡ reader .at) × (which < 4) ⌝ }
-    ensures { λ r. ⌜ ReadTo (known .edition) (now (reader .entry .bytes)) (which + 1) (r .reading) × (r .rest .bytes ≡ reader .entry .bytes) × (r .reading .at ≡ r .rest .at) ⌝ }
+    ensures { λ r. ⌜ ReadTo (known .edition) (now (reader .entry .bytes)) (which + 1) (r .reading) × (r .rest .bytes ≡ reader .entry .bytes)
+        × (r .reading .at ≡ r .rest .at) ⌝ }
 {
     let bytes = reader.bytes;
     let reading = sections::read(bytes, reader.at, which, known);

@@ -1,4 +1,4 @@
 -- The laws of this crate that belong to no one function.
 pub mod Begun
-pub mod Going
+pub mod BetweenTicks
 pub mod Held

@@ -17,7 +17,8 @@ use Rattle.tick.specs.Tables.{modulesIn, driveIn}
 abbrev pub kept : List ℕ → List ℕ → List ℕ → List ℕ → ℕ → State arrangement
 kept values last shown store count = record { values = values; last = last; shown = shown; pending = keptIn store count }
 
-pub record Ready (S : Sheet) (table delays times nodes levels watched : List ℕ) (st : State arrangement) (horizon : ℕ) (shape : Shape) (count : ℕ) : Type 0 where
+pub record Ready (S : Sheet) (table delays times nodes levels watched : List ℕ)
+    (st : State arrangement) (horizon : ℕ) (shape : Shape) (count : ℕ) : Type 0 where
   pub accepted : Accepted S
   pub some-tick : 0 < horizon
   pub few-ticks : horizon ≤ greatestHorizon

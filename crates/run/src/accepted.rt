@@ -32,8 +32,10 @@ pub(crate) fn run_accepted(
     records: [Module; MODULES],
     listing: &mut [u8],
 ) -> Answer
-    requires { ⌜ Accepted (heldSheet contents) × Holds (heldSheet contents) contents × (0 < horizon) × (horizon ≤ greatestHorizon) × (take (contents .counts .modules) records ≡ inWorkingOrder (heldSheet contents)) ⌝ }
-    ensures { λ r. ⌜ Leaves (ranSheet (heldSheet contents) horizon (length (now (listing .entry)))) (now (listing .entry)) (outcomeOf r) (now (listing .exit)) ⌝ }
+    requires { ⌜ Accepted (heldSheet contents) × Holds (heldSheet contents) contents × (0 < horizon) × (horizon ≤ greatestHorizon)
+        × (take (contents .counts .modules) records ≡ inWorkingOrder (heldSheet contents)) ⌝ }
+    ensures { λ r. ⌜ Leaves (ranSheet (heldSheet contents) horizon (length (now (listing .entry)))) (now (listing .entry)) (outcomeOf r)
+        (now (listing .exit)) ⌝ }
 {
     let counts = contents.counts;
     let modules = counts.modules as usize;
@@ -42,7 +44,7 @@ pub(crate) fn run_accepted(
     load_modules(records, modules, &mut table, &mut delays);
     let mut times = [0u32; EVENTS];
     let mut nodes = [0u8; EVENTS];
-    let mut levels = [0u8; EVENTS];
+    let mut levels = [Level::LOW; EVENTS];
     let drive = contents.drive;
     load_drive(
         drive,
@@ -51,10 +53,10 @@ pub(crate) fn run_accepted(
         &mut nodes,
         &mut levels,
     );
-    let mut values = [0u8; NODES];
+    let mut values = [Level::LOW; NODES];
     let initial = contents.nodes;
     load_values(initial, counts.nodes as usize, &mut values);
-    let mut last = [0u8; MODULES];
+    let mut last = [Level::LOW; MODULES];
     load_last(records, modules, &values, &mut last);
     let listed = contents.modules;
     let shape = Shape {

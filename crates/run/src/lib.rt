@@ -10,7 +10,8 @@ ghost use Rattle.sheet.specs.Outcome.{outcomeOf};
 ghost use Rattle.format.specs.Accepted.{Known};
 ghost use Rattle.network.specs.Run.{RunLeaves};
 
-// Runs a sheet of an edition to a horizon and lists the changes of its watched nodes: refusals 1 to 20, or a finished run with the count of records.
+// Runs a sheet of an edition to a horizon and lists the changes of its watched nodes:
+// refusals 1 to 20, or a finished run with the count of records.
 pub fn run(edition: Edition, bytes: &[u8], horizon: u32, listing: &mut [u8]) -> Answer
     requires { ⌜ Known edition ⌝ }
     ensures { λ r. ⌜ RunLeaves edition (now (bytes .entry)) horizon (now (listing .entry)) (outcomeOf r) (now (listing .exit)) ⌝ }

@@ -7,8 +7,8 @@ use sheet::EVENTS;
 use sheet::MODULES;
 use sheet::NODES;
 use sheet::WATCHED;
+use tick::Carried;
 use tick::Shape;
-use tick::Standing;
 use tick::TABLE;
 use tick::work;
 ghost use mathlib.Core.Path.{_≡_};
@@ -38,15 +38,22 @@ pub(crate) fn ticks(
     store: &mut Store,
     listing: &mut [u8],
 ) -> Answer
-    requires { ⌜ ((S : Sheet) × Ready S (now table) (now delays) (now times) (now nodes) (now levels) (now watched) (kept (now values) (now last) (now shown) (now store) 0) horizon shape count) × (now gates ≡ tables) × Sized (now store) ⌝ }
-    ensures { λ r. ⌜ ((S : Sheet) → Ready S (now (table .entry)) (now (delays .entry)) (now (times .entry)) (now (nodes .entry)) (now (levels .entry)) (now (watched .entry)) (kept (now (values .entry)) (now (last .entry)) (now (shown .entry)) (now (store .entry)) 0) horizon shape count → Leaves (ranSheet S horizon (length (now (listing .entry)))) (now (listing .entry)) (outcomeOf r) (now (listing .exit))) ⌝ }
+    requires { ⌜ ((S : Sheet)
+        × Ready S (now table) (now delays) (now times) (now nodes) (now levels) (now watched)
+        (kept (now values) (now last) (now shown) (now store) 0) horizon shape count)
+        × (now gates ≡ tables) × Sized (now store) ⌝ }
+    ensures { λ r. ⌜ ((S : Sheet)
+        → Ready S (now (table .entry)) (now (delays .entry)) (now (times .entry)) (now (nodes .entry)) (now (levels .entry))
+        (now (watched .entry))
+        (kept (now (values .entry)) (now (last .entry)) (now (shown .entry)) (now (store .entry)) 0) horizon shape count
+        → Leaves (ranSheet S horizon (length (now (listing .entry)))) (now (listing .entry)) (outcomeOf r) (now (listing .exit))) ⌝ }
 {
     let mut t: u32 = 0;
     let mut next: u16 = 0;
     let mut due: usize = 0;
     let mut n: usize = 0;
     while t < horizon {
-        let before = Standing { next, pending: due };
+        let before = Carried { next, pending: due };
         let after = work(
             shape,
             horizon,

@@ -43,7 +43,14 @@ modulePlace e s m = modulesPlace s + countSize + e .size * m
 
 abbrev pub moduleRecord : List ℕ → ℕ → Module
 moduleRecord s p =
-    record { kind = byteAt s p; parameter = byteAt s (p + 1); output = byteAt s (p + 2); first = byteAt s (p + 3); second = byteAt s (p + 4); delay = wordAt s (p + 5) }
+    record {
+      kind = byteAt s p;
+      parameter = byteAt s (p + 1);
+      output = byteAt s (p + 2);
+      first = byteAt s (p + 3);
+      second = byteAt s (p + 4);
+      delay = wordAt s (p + 5);
+    }
 
 abbrev pub moduleAt : Edition → List ℕ → ℕ → Module
 moduleAt e s m = moduleRecord s (modulePlace e s m)

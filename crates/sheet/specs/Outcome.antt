@@ -1,4 +1,5 @@
--- Document 01, "Where each refusal is met": an answer is either a finished run with its count, or a refusal with its number, place and count of records written.
+-- Document 01, "Where each refusal is met": an answer is either a finished run with its count, or a refusal with its number,
+-- place and count of records written.
 use mathlib.Core.List.{List, [], _∷_}
 use Prim.Native.Nat.{ℕ}
 use Rattle.sheet.specs.declared.Answer.{Answer}

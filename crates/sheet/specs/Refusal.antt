@@ -9,10 +9,13 @@ use Rattle.sheet.specs.declared.Edition.{Edition}
 use Rattle.sheet.specs.declared.Module.{Module}
 use Rattle.sheet.specs.declared.Event.{Event}
 use Rattle.sheet.specs.Enumerate.{anyOf, each}
-use Rattle.sheet.specs.Limits.{leastNodes, mostNodes, mostModules, mostEvents, mostWatched, inputByte, lastValue, longestDelay, lastTick}
+use Rattle.sheet.specs.Limits.{leastNodes, mostNodes, mostModules, mostEvents, mostWatched}
+use Rattle.sheet.specs.Limits.{inputByte, lastValue, longestDelay, lastTick}
 use Rattle.sheet.specs.Bytes.{wordAt, endsInside}
 use Rattle.sheet.specs.Sheet.{Sheet, nodeCount}
-use Rattle.sheet.specs.Layout.{countSize, eventSize, nodesCounted, nodePlace, nodeAt, modulesPlace, modulesCounted, modulePlace, moduleAt, drivePlace, eventsCounted, eventPlace, eventAt, watchedPlace, watchedCounted, watchPlace, watchedAt, sheetEnd, sheetOf}
+use Rattle.sheet.specs.Layout.{countSize, eventSize, nodesCounted, nodePlace, nodeAt}
+use Rattle.sheet.specs.Layout.{modulesPlace, modulesCounted, modulePlace, moduleAt, drivePlace, eventsCounted, eventPlace, eventAt}
+use Rattle.sheet.specs.Layout.{watchedPlace, watchedCounted, watchPlace, watchedAt, sheetEnd, sheetOf}
 use Rattle.sheet.specs.Outcome.{Outcome, finished, refused}
 use Rattle.sheet.specs.Wiring.{usedInputs, unusedInputs, drivenBy, isDriven, isInput, drivenAtStart}
 use Rattle.sheet.specs.Loop.{onLoop}
@@ -53,7 +56,8 @@ abbrev pub miswired : ℕ → Module → Bool
 miswired nodes m = anyOf (leb nodes) (m .output ∷ usedInputs m) || anyOf (ltb 0) (unusedInputs m)
 
 -- The rest goes by the edition and the sheet that stands in the bytes.
--- a module: kind above the edition's greatest; parameter not allowed; wrong wiring; delay above 10,000; output already driven by an earlier record
+-- a module: kind above the edition's greatest; parameter not allowed; wrong wiring; delay above 10,000;
+-- output already driven by an earlier record
 abbrev pub moduleRows : Edition → List ℕ → ℕ → List Row
 moduleRows e s m =
     (2 at modulePlace e s m when endsInside s (modulePlace e s m) (e .size))
@@ -66,7 +70,9 @@ moduleRows e s m =
 
 -- after the modules: driven node with byte 4, or undriven node with 0 to 3
 abbrev pub startRows : Edition → List ℕ → ℕ → List Row
-startRows e s v = (10 at v when isDriven (sheetOf e s) v && eqb (nodeAt s v) inputByte || not (isDriven (sheetOf e s) v) && ltb (nodeAt s v) inputByte) ∷ []
+startRows e s v =
+    (10 at v when isDriven (sheetOf e s) v && eqb (nodeAt s v) inputByte
+    || not (isDriven (sheetOf e s) v) && ltb (nodeAt s v) inputByte) ∷ []
 
 -- by tick, then by node: nodes are bytes
 abbrev pub key : Event → ℕ

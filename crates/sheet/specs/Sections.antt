@@ -1,4 +1,5 @@
--- The four sections by their number, 0 the nodes' to 3 the watched nodes': where each stands, the rows met in it and right after it, and what reading it gives.
+-- The four sections by their number, 0 the nodes' to 3 the watched nodes':
+-- where each stands, the rows met in it and right after it, and what reading it gives.
 use mathlib.Core.List.{List, _++_}
 use mathlib.Core.Path.{_≡_}
 use Prim.Native.Nat.{ℕ, zero, suc, _≤_}
@@ -8,7 +9,8 @@ use Rattle.sheet.specs.Enumerate.{each, listed}
 use Rattle.sheet.specs.Contents.{filled}
 use Rattle.sheet.specs.Layout.{nodesCounted, modulesPlace, drivePlace, watchedPlace, sheetEnd}
 use Rattle.sheet.specs.Outcome.{Outcome, finished}
-use Rattle.sheet.specs.Refusal.{Row, first, nodesSection, modulesSection, startRows, driveSection, firstEventRows, watchedSection, leftOverRows}
+use Rattle.sheet.specs.Refusal.{Row, first}
+use Rattle.sheet.specs.Refusal.{nodesSection, modulesSection, startRows, driveSection, firstEventRows, watchedSection, leftOverRows}
 
 -- the place of a section; past the last, the sheet's end
 abbrev pub placeOf : Edition → List ℕ → ℕ → ℕ
@@ -25,9 +27,11 @@ rowsOf e s (suc zero) = modulesSection e s ++ each (nodesCounted s) (startRows e
 rowsOf e s (suc (suc zero)) = driveSection e s ++ each (nodesCounted s) (firstEventRows e s)
 rowsOf e s (suc (suc (suc k))) = watchedSection e s ++ leftOverRows e s
 
--- A section read: the first of its rows that is met is the answer. Without one, the count and the records that stand there are known, in an array filled up with blanks;
+-- A section read: the first of its rows that is met is the answer.
+-- Without one, the count and the records that stand there are known, in an array filled up with blanks;
 -- with one there are none.
-pub record SectionRead {ℓ} {A : Type ℓ} (rows : List Row) (most : ℕ) (blank : A) (n : ℕ) (stands : ℕ → A) (answer : Outcome) (count : ℕ) (records : List A) : Type ℓ where
+pub record SectionRead {ℓ} {A : Type ℓ} (rows : List Row) (most : ℕ) (blank : A) (n : ℕ) (stands : ℕ → A)
+    (answer : Outcome) (count : ℕ) (records : List A) : Type ℓ where
   pub answered : answer ≡ first rows
   pub counted : answer ≡ finished 0 → count ≡ n
   pub few : answer ≡ finished 0 → count ≤ most

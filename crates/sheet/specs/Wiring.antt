@@ -1,4 +1,5 @@
--- Document 01, "Modules" and "Working and renumbering": a module's inputs and rule, which nodes are driven, and which are inputs of the sheet.
+-- Document 01, "Modules" and "Working and renumbering": a module's inputs and rule, which nodes are driven,
+-- and which are inputs of the sheet.
 use mathlib.Core.Bool.{Bool, _&&_, not}
 use mathlib.Core.List.{List, [], _∷_, List·Memᴰ}
 use Prim.Native.Nat.{ℕ}

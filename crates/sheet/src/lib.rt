@@ -1,4 +1,5 @@
 // The sheet's bytes: its records, and reading them.
+use level::Level;
 ghost use mathlib.Core.Path.{_≡_};
 ghost use Rattle.sheet.specs.Bytes.{byteAt, wordAt, longAt};
 ghost use Rattle.sheet.specs.Layout.{firstEdition, moduleRecord, eventRecord};
@@ -37,7 +38,7 @@ pub const WATCHED: usize = MOST_WATCHED as usize;
 // The byte of a node that is an input, and the greatest value of a cell.
 pub const INPUT: u8 = 4;
 
-pub const LAST_VALUE: u8 = 3;
+pub const LAST_VALUE: u8 = Level::NONE;
 
 // The longest delay, and the last tick of an event.
 pub const LONGEST_DELAY: u16 = 10000;
@@ -65,7 +66,7 @@ pub fn first_edition() -> Edition
     }
 }
 
-// What every public call answers.
+// What a check and a run answer.
 pub enum Answer {
     // A finished call, with its count.
     Ran(u32),

@@ -1,4 +1,5 @@
--- What a lent text holds once bytes are printed into it from its start: bytes that do not fit are cut off, and past the last one it is as it was.
+-- What a lent text holds once bytes are printed into it from its start:
+-- bytes that do not fit are cut off, and past the last one it is as it was.
 use mathlib.Core.List.{List, _++_}
 use mathlib.Core.Path.{_≡_}
 use Prim.Native.Nat.{ℕ, min}

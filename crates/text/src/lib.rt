@@ -13,7 +13,8 @@ ghost use Rattle.sheet.specs.Outcome.{finished, refused, outcomeOf};
 ghost use Rattle.text.specs.Printing.{printedText};
 ghost use Rattle.text.specs.Lent.{Printed, Prints};
 
-// Prints an answer, and after a finished run the listing's records, into a lent text. Answers how many bytes it wrote: what does not fit is cut off.
+// Prints an answer, and after a finished run the listing's records, into a lent text.
+// Answers how many bytes it wrote: what does not fit is cut off.
 pub fn print(answer: Answer, listing: &[u8], text: &mut [u8]) -> usize
     ensures { λ r. ⌜ Printed (now (text .entry)) (printedText (outcomeOf answer) (now (listing .entry))) (now (text .exit)) r ⌝ }
 {
@@ -35,7 +36,8 @@ fn put_records(text: &mut [u8], count: u32, listing: &[u8]) -> usize
 
 // The refusal's number and place.
 fn put_refusal(text: &mut [u8], number: u32, place: u32) -> usize
-    ensures { λ r. ⌜ ((listing : List ℕ) (count : ℕ) → Prints (printedText (refused number place count) listing) (now (text .entry)) 0 (now (text .exit)) r) ⌝ }
+    ensures { λ r. ⌜ ((listing : List ℕ) (count : ℕ)
+        → Prints (printedText (refused number place count) listing) (now (text .entry)) 0 (now (text .exit)) r) ⌝ }
 {
     let first = put_all(text, 0, b"refused");
     let second = put_field(text, first, number);

@@ -13,10 +13,10 @@ ghost use Rattle.text.specs.Lent.{Prints};
 fn value_byte(value: u8) -> u8
     ensures { λ r. ⌜ r ≡ printed value ⌝ }
 {
-    if value < 4 {
+    if value <= Level::NONE {
         Level::printed(value)
     } else {
-        b'X'
+        Level::printed(Level::UNKNOWN)
     }
 }
 

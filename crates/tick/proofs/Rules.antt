@@ -48,8 +48,8 @@ module _ {kind parameter first second held : ℕ} (known : Known kind parameter)
   with-bound e =
       (e, rw e (level-bound kind parameter _ held (λ z. let p = rw z at known .allowed in omega arith) (length-used kind parameter _ (omega arith)) (values-take (inputsOf (ruleOf kind parameter)) _ (f, (s, tt))) h))
 
-  pub constant : kind ≡ 0 → Comes parameter
-  constant e = rw e
+  pub constant : {r : ℕ} → kind ≡ 0 → ((inputs : List ℕ) (held : ℕ) → r ≡ comesTo (ruleOf 0 parameter) inputs held) → Comes r
+  constant e c = rw e (c (used 0 parameter first second) held)
 
   pub gate-of-one : (g : List ℕ) (from : ℕ) → g ≡ tables → from ≡ tableStart kind → from + 4 ≤ 104 → 1 ≤ kind → kind ≤ 2 → Comes (getD (take (length g - from) (drop from g)) first 0)
   gate-of-one g from e b l one two =

@@ -10,7 +10,7 @@ use Rattle.pending.specs.Kept.{arrangement, keptIn, pendingRoom, Sized}
 use Rattle.tick.specs.Tables.{modulesIn, driveIn}
 use Rattle.tick.specs.Rest.{AllKnown, Levels, Driving, Placed}
 use Rattle.tick.specs.declared.Shape.{Shape}
-use Rattle.tick.specs.declared.Standing.{Standing}
+use Rattle.tick.specs.declared.Carried.{Carried}
 
 -- arrays as the model keeps them
 abbrev pub settled : List ℕ → List ℕ → Settled
@@ -30,7 +30,7 @@ loadedIn table delays ticks nodes levels shape =
     }
 
 -- what a tick's work rests on
-pub record Workable (shape : Shape) (l : Loaded) (horizon t : ℕ) (values last store : List ℕ) (before : Standing) : Type 0 where
+pub record Workable (shape : Shape) (l : Loaded) (horizon t : ℕ) (values last store : List ℕ) (before : Carried) : Type 0 where
   pub few-modules : shape .modules ≤ mostModules
   pub few-delayed : shape .delayed ≤ shape .modules
   pub few-events : shape .events ≤ mostEvents
@@ -51,7 +51,8 @@ workedTick l horizon t values last pending =
     tick arrangement l horizon t (record { values = values; last = last; shown = []; pending = pending }) .state
 
 -- the arrays after a tick's work, and what stands then
-pub record Worked (l : Loaded) (horizon t : ℕ) (values last : List ℕ) (pending : arrangement .Kept) (values′ last′ store′ : List ℕ) (after : Standing) : Type 0 where
+pub record Worked (l : Loaded) (horizon t : ℕ) (values last : List ℕ) (pending : arrangement .Kept)
+    (values′ last′ store′ : List ℕ) (after : Carried) : Type 0 where
   pub values-worked : values′ ≡ workedTick l horizon t values last pending .values
   pub last-worked : last′ ≡ workedTick l horizon t values last pending .last
   pub pending-worked : keptIn store′ (after .pending) ≡ workedTick l horizon t values last pending .pending

@@ -1,6 +1,7 @@
 // What a module comes to, and where it goes.
 use crate::TABLE;
 use crate::bytes::wide;
+use level::CONSTANT;
 use level::LAST_OF_ONE;
 use level::Level;
 use level::MEMORY;
@@ -24,8 +25,8 @@ fn rule(gates: &[u8], kind: u8, parameter: u8, first: u8, second: u8, held: u8) 
     ensures { λ r. ⌜ (r ≡ comesTo (ruleOf kind parameter) (take (inputsOf (ruleOf kind parameter)) (first ∷ second ∷ [])) held)
         × (r < 4) ⌝ }
 {
-    if kind == 0 {
-        return parameter;
+    if kind == CONSTANT {
+        return Level::constant(parameter);
     }
     if kind <= LAST_OF_ONE {
         let row = &gates[Level::start_of_one(kind)..];

@@ -33,8 +33,8 @@ pub struct Shape {
     pub events: u16,
 }
 
-// Between ticks: the first event that is not before the next tick, and how many changes are pending.
-pub struct Standing {
+// What is carried from tick to tick: the first event that is not before the next one, and how many changes are pending.
+pub struct Carried {
     pub next: u16,
     pub pending: usize,
 }
@@ -53,8 +53,8 @@ pub fn work(
     values: &mut [u8; NODES],
     last: &mut [u8; MODULES],
     store: &mut Store,
-    before: Standing,
-) -> Standing
+    before: Carried,
+) -> Carried
     requires { ⌜ Workable shape (loadedIn (now table) (now delays) (now ticks) (now nodes) (now levels) shape) horizon t
         (now values) (now last) (now store) before
         × (now gates ≡ tables) ⌝ }
@@ -80,7 +80,7 @@ pub fn work(
         store,
         kept,
     );
-    Standing {
+    Carried {
         next,
         pending: count,
     }

@@ -32,7 +32,8 @@ pub fn load_event(
     nodes: &mut [u8; EVENTS],
     levels: &mut [u8; EVENTS],
 )
-    requires { ⌜ (e < mostEvents) × (length (now ticks) ≡ mostEvents) × (length (now nodes) ≡ mostEvents) × (length (now levels) ≡ mostEvents) ⌝ }
+    requires { ⌜ (e < mostEvents) × (length (now ticks) ≡ mostEvents) × (length (now nodes) ≡ mostEvents)
+        × (length (now levels) ≡ mostEvents) ⌝ }
     ensures { λ _. ⌜ EventPut (now (ticks .entry)) (now (nodes .entry)) (now (levels .entry)) e event
         (now (ticks .exit)) (now (nodes .exit)) (now (levels .exit)) ⌝ }
 {

@@ -42,7 +42,8 @@ pub(crate) fn settle_all(
     values: &mut [u8; NODES],
     last: &mut [u8; MODULES],
 )
-    requires { ⌜ (from ≤ to) × (to ≤ mostModules) × (now gates ≡ tables) × KnownIn (now table) to × Levels (now values) × Levels (now last) ⌝ }
+    requires { ⌜ (from ≤ to) × (to ≤ mostModules) × (now gates ≡ tables) × KnownIn (now table) to × Levels (now values)
+        × Levels (now last) ⌝ }
     ensures { λ _. ⌜ ((delays : List ℕ) → settled (now (values .exit)) (now (last .exit))
         ≡ settle (modulesIn (now (table .entry)) delays to) from (to - from) (settled (now (values .entry)) (now (last .entry))))
         × Levels (now (values .exit)) × Levels (now (last .exit)) ⌝ }

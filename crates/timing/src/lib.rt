@@ -29,7 +29,8 @@ pub fn check(sheet: &[u8]) -> Answer
     check_in(sheet::first_edition(), sheet)
 }
 
-// Runs a sheet to a horizon: refusals 1 to 20, or a finished run with the count of its records. The listing's records stand first in the buffer; bytes past them are as they were.
+// Runs a sheet to a horizon: refusals 1 to 20, or a finished run with the count of its records.
+// The listing's records stand first in the buffer; bytes past them are as they were.
 pub fn run(sheet: &[u8], horizon: u32, listing: &mut [u8]) -> Answer
     ensures { λ r. ⌜ RunLeaves firstEdition (now (sheet .entry)) horizon (now (listing .entry)) (outcomeOf r) (now (listing .exit)) ⌝ }
 {

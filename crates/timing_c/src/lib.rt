@@ -26,7 +26,8 @@ pub extern "C" fn timing_check(sheet: &[u8], answer: &mut [u32; 3])
 // The three numbers are those of the answer that the run leaves.
 #[no_mangle]
 pub extern "C" fn timing_run(sheet: &[u8], horizon: u32, listing: &mut [u8], answer: &mut [u32; 3])
-    ensures { λ _. ⌜ ((o : Outcome) × (now (answer .exit) ≡ numbers o) × RunLeaves firstEdition (now (sheet .entry)) horizon (now (listing .entry)) o (now (listing .exit))) ⌝ }
+    ensures { λ _. ⌜ ((o : Outcome) × (now (answer .exit) ≡ numbers o)
+        × RunLeaves firstEdition (now (sheet .entry)) horizon (now (listing .entry)) o (now (listing .exit))) ⌝ }
 {
     *answer = numbers_of(timing::run(sheet, horizon, listing));
 }

@@ -1,4 +1,4 @@
-//! Every file and every name that docs/PROMISES.md points at is there.
+//! Every file and every name that docs/PROMISES.md points at is there, and every must-fail edit stands on it.
 
 use std::fs;
 
@@ -82,4 +82,105 @@ fn the_length_of_the_definitions() {
     let lines: usize = BELIEVED.iter().map(|name| definition_lines(name)).sum();
     let said = format!("{lines} lines that are not empty");
     assert!(page.contains(&said), "the page does not say: {said}");
+}
+
+/// What an edit changes.
+#[derive(Debug, PartialEq, Clone, Copy)]
+enum Changes {
+    Code,
+    Definitions,
+}
+
+/// Whether the text at a place stands in a function's contract, which is written between ⌜ and ⌝.
+fn in_contract(code: &str, at: usize) -> bool {
+    code[..at].matches('⌜').count() > code[..at].matches('⌝').count()
+}
+
+/// What an edit changes in a crate: a file of `specs` or `proofs`, or a contract, is a definition's.
+fn changes(edit: &str, read: impl Fn(&str) -> String) -> Changes {
+    let mut file = "";
+    let mut found = Vec::new();
+    for line in edit.lines() {
+        if let Some(name) = line.strip_prefix("file: ") {
+            file = name;
+        } else if let Some(old) = line.strip_prefix("old: ") {
+            let code = read(file);
+            let at = code
+                .find(old)
+                .unwrap_or_else(|| panic!("no {old} in {file}"));
+            found.push(match file.split('/').next() {
+                Some("src") if !in_contract(&code, at) => Changes::Code,
+                Some("src" | "specs" | "proofs") => Changes::Definitions,
+                _ => panic!("an edit of {file}"),
+            });
+        }
+    }
+    assert!(!found.is_empty(), "an edit of nothing: {edit}");
+    assert!(
+        found.iter().all(|&one| one == found[0]),
+        "an edit of both: {edit}"
+    );
+    found[0]
+}
+
+/// Every must-fail edit: its file, as the page names it, and what it changes.
+fn edits() -> Vec<(String, Changes)> {
+    let files = |folder: PathBuf| -> Vec<String> {
+        let names = fs::read_dir(folder).into_iter().flatten();
+        names
+            .map(|entry| entry.unwrap().file_name().into_string().unwrap())
+            .collect()
+    };
+    let mut found = Vec::new();
+    for name in files(repository().join("crates")) {
+        let folder = repository().join("crates").join(&name);
+        for file in files(folder.join("must-fail")) {
+            let edit = fs::read_to_string(folder.join("must-fail").join(&file)).unwrap();
+            let what = changes(&edit, |file| fs::read_to_string(folder.join(file)).unwrap());
+            found.push((format!("crates/{name}/must-fail/{file}"), what));
+        }
+    }
+    found
+}
+
+/// The part of the page under a heading, up to the next heading.
+fn under<'a>(page: &'a str, heading: &str) -> &'a str {
+    let (_, rest) = page.split_once(&format!("\n{heading}\n")).unwrap();
+    rest.split("\n#").next().unwrap()
+}
+
+#[test]
+fn every_edit_is_listed_once_in_its_table() {
+    let page = fs::read_to_string(repository().join("docs/PROMISES.md")).unwrap();
+    let code = under(&page, "### Edits of code");
+    let definitions = under(&page, "### Edits of definitions and promises");
+    let found = edits();
+    assert!(found.len() >= 90, "too few edits: {}", found.len());
+    for (file, what) in found {
+        let word = format!("`{file}`");
+        assert_eq!(page.matches(&word).count(), 1, "{file} on the page");
+        let table = match what {
+            Changes::Code => code,
+            Changes::Definitions => definitions,
+        };
+        assert!(table.contains(&word), "{file} is an edit of {what:?}");
+    }
+}
+
+#[test]
+fn an_edit_of_a_contract_is_told_from_one_of_code() {
+    let code = "fn f()\n    ensures { λ r. ⌜ r ≡ 1 ⌝ }\n{\n    1 + 0\n}\n";
+    let of = |edit: &str| changes(edit, |_| code.to_string());
+    assert_eq!(
+        of("Why.\nfile: src/lib.rt\nold: 1 + 0\nnew: 2\n"),
+        Changes::Code
+    );
+    assert_eq!(
+        of("file: src/lib.rt\nold: r ≡ 1 ⌝\nnew: r ≡ r ⌝\n"),
+        Changes::Definitions
+    );
+    assert_eq!(
+        of("file: specs/F.antt\nold: 1 + 0\nnew: 2\n"),
+        Changes::Definitions
+    );
 }

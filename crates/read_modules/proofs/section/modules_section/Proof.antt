@@ -29,8 +29,8 @@ returns c =
     let known = a .module-records .ensures in
     known-as e s (rowsOf e s 1) known (stopped (modulesSection e s) _ (known .section .answered) _ _ _ (c .enum-told2 .given .1) (each (nodesCounted s) (startRows e s)))
 
-start-records-requires : tie.Need-start-records-requires
-start-records-requires c κs = search needs
+first-byte-refusal-requires : tie.Need-first-byte-refusal-requires
+first-byte-refusal-requires c κs = search needs
 
 enum-told-3 : tie.Need-enum-told-3
 enum-told-3 c = search needs
@@ -49,9 +49,9 @@ none-met c =
     told ∙ passed (modulesSection (a .before .before .args .e) (a .before .before .args .s .now)) _ told _ (c .enum-told .given .1)
 
 -- the answer about the nodes' bytes is that of all rows
-decided : (c : tie.After-start-records)
+decided : (c : tie.After-first-byte-refusal)
     → let args = c .before .before .before .before .before .before .before .args in
-    outcomeOf (c .start-records .result) ≡ first (rowsOf (args .e) (args .s .now) 1)
+    outcomeOf (c .first-byte-refusal .result) ≡ first (rowsOf (args .e) (args .s .now) 1)
 decided c =
     let t = c .before .before .before in
     let a = t .before .before in
@@ -60,7 +60,7 @@ decided c =
     let s = start .args .s .now in
     let known = a .module-records .ensures in
     went-on (modulesSection e s) (each (nodesCounted s) (startRows e s)) _ (known .section .answered) _ (t .enum-told .given .1) _
-    (c .start-records .ensures ∙ start-rows e s (start .pre .1) (start .pre .2) (start .pre .3) (a .module-records .result .driven) (known .driven (none-met t)))
+    (c .first-byte-refusal .ensures ∙ start-rows e s (start .pre .1) (start .pre .2) (start .pre .3) (a .module-records .result .driven) (known .driven (none-met t)))
 
 returns-2 : tie.Need-returns-2
 returns-2 c =
@@ -87,7 +87,7 @@ modules-section-spec =
     enum-told
     enum-told-2
     returns
-    start-records-requires
+    first-byte-refusal-requires
     enum-told-3
     enum-told-4
     none-read-requires

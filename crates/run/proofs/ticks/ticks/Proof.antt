@@ -7,7 +7,7 @@ use native.Mathlib.Omega.{arith}
 use Prim.Native.Nat.{_-_}
 use Rattle.sheet.specs.Sheet.{Sheet}
 use Rattle.run.specs.Ready.{kept, Ready}
-use Rattle.run.proofs.Going.{Going, start, workable, told-full, told-crowded, told-next, reached, few-records, few-left, same-length-so-far}
+use Rattle.run.proofs.BetweenTicks.{BetweenTicks, start, workable, told-full, told-crowded, told-next, reached, few-records, few-left, same-length-so-far}
 use Rattle.run.proofs.ticks.ticks.Statement.{statement}
 use Rattle.run.proofs.ticks.ticks.Tie as tie
 
@@ -15,7 +15,7 @@ abbrev Inv-loop : tie.InvT-loop
 Inv-loop shape horizon gates table delays times nodes levels watched count values₀ last₀ shown₀ store₀ listing₀ t₀ next₀ due₀ n₀ values last shown store listing t next due n =
     ((S : Sheet) × Ready S table delays times nodes levels watched (kept values₀ last₀ shown₀ store₀ 0) horizon shape count)
     × ((S : Sheet) → Ready S table delays times nodes levels watched (kept values₀ last₀ shown₀ store₀ 0) horizon shape count
-    → Going S (kept values₀ last₀ shown₀ store₀ 0) horizon listing₀ t next due n values last shown store listing)
+    → BetweenTicks S (kept values₀ last₀ shown₀ store₀ 0) horizon listing₀ t next due n values last shown store listing)
 
 abbrev μ-loop : tie.MeasureT-loop
 μ-loop shape horizon gates table delays times nodes levels watched count values₀ last₀ shown₀ store₀ listing₀ t₀ next₀ due₀ n₀ values last shown store listing t next due n = horizon - t

@@ -8,10 +8,13 @@ use borrow.Author.Needs.{needs}
 use Rattle.tick.proofs.contribution.rule.Statement.{statement}
 use Rattle.tick.proofs.contribution.rule.Tie as tie
 
+constant-requires : tie.Need-constant-requires
+constant-requires c κs = search needs
+
 returns : tie.Need-returns
 returns c =
-    let p = c .before .before .pre in
-    with-bound (p .1) (p .2) (p .3) (p .4) (constant (p .1) (p .2) (p .3) (p .4) (c .if1 .taken))
+    let p = c .before .before .before .pre in
+    with-bound (p .1) (p .2) (p .3) (p .4) (constant (p .1) (p .2) (p .3) (p .4) (c .before .if1 .taken) (c .constant .ensures))
 
 start-of-one-requires : tie.Need-start-of-one-requires
 start-of-one-requires c κs = search needs
@@ -101,6 +104,7 @@ pub rule-spec : {M : Type 1} → statement M
 rule-spec =
     tie.close
     (tie.spec
+    constant-requires
     returns
     start-of-one-requires
     sub-row

@@ -1,8 +1,8 @@
--- `read_modules::starts::start_refusal` meets its contract: the node's flag and byte decide its row. Assumes nothing.
+-- `read_modules::node_bytes::byte_refusal` meets its contract: the node's flag and byte decide its row. Assumes nothing.
 use borrow.Author.Tests.{lt-ltb, le-ltb, eq-eqb, ne-eqb}
 use Rattle.sheet.specs.Refusal.{first}
-use Rattle.read_modules.proofs.starts.start_refusal.Statement.{statement}
-use Rattle.read_modules.proofs.starts.start_refusal.Tie as tie
+use Rattle.read_modules.proofs.node_bytes.byte_refusal.Statement.{statement}
+use Rattle.read_modules.proofs.node_bytes.byte_refusal.Tie as tie
 
 returns : tie.Need-returns
 unfolding first
@@ -20,5 +20,5 @@ returns-4 : tie.Need-returns-4
 unfolding first
 returns-4 c = simp (c .before .if1 .left, le-ltb _ _ (c .if3 .left))
 
-pub start-refusal-spec : {M : Type 1} → statement M
-start-refusal-spec = tie.close (tie.spec returns returns-2 returns-3 returns-4)
+pub byte-refusal-spec : {M : Type 1} → statement M
+byte-refusal-spec = tie.close (tie.spec returns returns-2 returns-3 returns-4)

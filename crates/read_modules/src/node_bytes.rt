@@ -13,7 +13,7 @@ ghost use Rattle.sheet.specs.Refusal.{first};
 ghost use Rattle.read_modules.specs.Record.{byteRows};
 
 // The refusal met at a node: driven with byte 4, or undriven with 0 to 3.
-fn start_refusal(v: u16, byte: u8, driven: bool) -> Answer
+fn byte_refusal(v: u16, byte: u8, driven: bool) -> Answer
     ensures { λ r. ⌜ outcomeOf r ≡ first (byteRows v byte driven) ⌝ }
 {
     if driven {
@@ -29,14 +29,15 @@ fn start_refusal(v: u16, byte: u8, driven: bool) -> Answer
 }
 
 // The first refusal met at a node's byte.
-pub(crate) fn start_records(nodes: &[u8; NODES], count: u16, driven: &[bool; NODES]) -> Answer
+pub(crate) fn first_byte_refusal(nodes: &[u8; NODES], count: u16, driven: &[bool; NODES]) -> Answer
     requires { ⌜ count ≤ mostNodes ⌝ }
-    ensures { λ r. ⌜ outcomeOf r ≡ first (each count (λ v. byteRows v (getD (now (nodes .entry)) v 0) (getD (now (driven .entry)) v false))) ⌝ }
+    ensures { λ r. ⌜ outcomeOf r
+        ≡ first (each count (λ v. byteRows v (getD (now (nodes .entry)) v 0) (getD (now (driven .entry)) v false))) ⌝ }
 {
     let mut v: u16 = 0;
     while v < count {
         let at = v as usize;
-        let a = start_refusal(v, nodes[at], driven[at]);
+        let a = byte_refusal(v, nodes[at], driven[at]);
         let Answer::Ran(_) = a else {
             return a;
         };

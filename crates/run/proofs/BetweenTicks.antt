@@ -27,7 +27,7 @@ use Rattle.model.proofs.Ran.{Passes, setting, full, crowded, whole}
 use Rattle.pending.proofs.Taking.{counts-first}
 use Rattle.pending.specs.Kept.{arrangement, keptIn, Sized}
 use Rattle.tick.specs.declared.Shape.{Shape}
-use Rattle.tick.specs.declared.Standing.{Standing}
+use Rattle.tick.specs.declared.Carried.{Carried}
 use Rattle.tick.specs.Rest.{Levels, Placed}
 use Rattle.tick.specs.Tick.{loadedIn, Workable, Worked}
 use Rattle.tick.proofs.Tables.{length-modules, length-drive}
@@ -40,7 +40,7 @@ use Rattle.load.proofs.Begun.{known-modules, driving}
 use Rattle.run.specs.Ready.{kept, Ready}
 
 -- before tick t: the arrays, the first event that is not before it, the changes pending and the records written
-pub record Going (S : Sheet) (st : State arrangement) (horizon : ℕ) (buffer : List ℕ) (t next due n : ℕ) (values last shown store listing : List ℕ) : Type 0 where
+pub record BetweenTicks (S : Sheet) (st : State arrangement) (horizon : ℕ) (buffer : List ℕ) (t next due n : ℕ) (values last shown store listing : List ℕ) : Type 0 where
   pub within : t ≤ horizon
   pub driven : next ≡ nextEvent (S .drive) t
   pub state : kept values last shown store due ≡ stateAt arrangement S horizon st t
@@ -63,7 +63,7 @@ none-before drive (suc n) = rw (← none-before drive n, le-ltb (eventIn drive n
 
 -- the listing is as long as it was
 pub same-length-so-far : {S : Sheet} {st : State arrangement} {horizon : ℕ} {buffer : List ℕ} {t next due n : ℕ} {values last shown store now : List ℕ}
-    → Going S st horizon buffer t next due n values last shown store now → length now ≡ length buffer
+    → BetweenTicks S st horizon buffer t next due n values last shown store now → length now ≡ length buffer
 same-length-so-far {S} {st} {horizon} {buffer} {t} G =
     let below = recordsBelow arrangement S horizon st t in
     ap length (G .bytes) ∙ buffer-length below buffer (fits-room (length below) (length buffer) .1 (rw (← G .counted) (G .fits)))
@@ -89,7 +89,7 @@ module _ {S : Sheet} {table delays times nodes levels watched : List ℕ} {st : 
   below = recordsBelow arrangement S horizon st
 
   pub start : (values last shown store : List ℕ) → st ≡ kept values last shown store 0 → Sized store → (buffer : List ℕ)
-      → Going S st horizon buffer 0 0 0 0 values last shown store buffer
+      → BetweenTicks S st horizon buffer 0 0 0 0 values last shown store buffer
   unfolding stateAt recordsBelow
   start values last shown store e size buffer =
       let b = R .begun in
@@ -117,7 +117,7 @@ module _ {S : Sheet} {table delays times nodes levels watched : List ℕ} {st : 
     ended : (n t : ℕ) (o : ℕ → Outcome) → n ≡ length (below t) → listing′ ≡ bufferAfter (below t) buffer → ranSheet S horizon (length buffer) ≡ wrote (o (length (below t))) (below t) → Ended (o n)
     ended n t o counted bytes e = record { answered = ap o counted ∙ sym (ap (λ w. w .answer) e); left = bytes ∙ ap (λ rs. bufferAfter rs buffer) (sym (ap (λ w. w .records) e)) }
 
-  module _ {buffer : List ℕ} {t next due n : ℕ} {values last shown store now : List ℕ} (G : Going S st horizon buffer t next due n values last shown store now) where
+  module _ {buffer : List ℕ} {t next due n : ℕ} {values last shown store now : List ℕ} (G : BetweenTicks S st horizon buffer t next due n values last shown store now) where
     -- the count of records is a number of 32 bits
     pub few-records : n < 4294967296
     few-records = omega (arith, G .within, G .bounded, R .few-ticks)
@@ -154,7 +154,7 @@ module _ {S : Sheet} {table delays times nodes levels watched : List ℕ} {st : 
           delayed-most = delayed-at-most S
 
       -- A tick, from what is kept before it and what its work makes of that.
-      module _ {values′ last′ store′ : List ℕ} {after : Standing} (W : Worked tables horizon t values last (keptIn store due) values′ last′ store′ after) where
+      module _ {values′ last′ store′ : List ℕ} {after : Carried} (W : Worked tables horizon t values last (keptIn store due) values′ last′ store′ after) where
         -- the records of the tick
         abbrev these : List Record
         these = fresh t values′ shown (take total watched)
@@ -228,7 +228,7 @@ module _ {S : Sheet} {table delays times nodes levels watched : List ℕ} {st : 
               (crowded (R .accepted) horizon st (R .begun) (length buffer) t h (G .passed) (rw below-length fits-buffer) (rw pending-now over))
 
           -- on to the next tick
-          next-tick : after .pending ≤ pendingLimit → Going S st horizon buffer (suc t) (after .next) (after .pending) count values′ last′ shown′ store′ now′
+          next-tick : after .pending ≤ pendingLimit → BetweenTicks S st horizon buffer (suc t) (after .next) (after .pending) count values′ last′ shown′ store′ now′
           next-tick few =
               record {
                 within = h;
@@ -263,7 +263,7 @@ module _ {S : Sheet} {table delays times nodes levels watched : List ℕ} {st : 
             too-many (told .0) (told .2) (told .1)
 
         pub told-next : {x : Step} {count : ℕ} (now′ shown′ : List ℕ) → x ≡ Next count → Told x now′ shown′
-            → Going S st horizon buffer (suc t) (after .next) (after .pending) count values′ last′ shown′ store′ now′
+            → BetweenTicks S st horizon buffer (suc t) (after .next) (after .pending) count values′ last′ shown′ store′ now′
         told-next now′ shown′ e l =
             let told = subst (λ x. Told x now′ shown′) e l in
             next-tick (told .0) (told .2) (told .1)

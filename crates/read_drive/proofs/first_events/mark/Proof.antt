@@ -1,8 +1,8 @@
--- `read_drive::starts::mark` meets its contract: an event at tick 0 flags its node, another flags none. Assumes nothing.
+-- `read_drive::first_events::mark` meets its contract: an event at tick 0 flags its node, another flags none. Assumes nothing.
 use borrow.Author.Needs.{needs}
 use borrow.Author.Tests.{eq-eqb, ne-eqb}
-use Rattle.read_drive.proofs.starts.mark.Statement.{statement}
-use Rattle.read_drive.proofs.starts.mark.Tie as tie
+use Rattle.read_drive.proofs.first_events.mark.Statement.{statement}
+use Rattle.read_drive.proofs.first_events.mark.Tie as tie
 
 returns : tie.Need-returns
 returns c = simp (eq-eqb _ _ (c .before .if1 .taken))

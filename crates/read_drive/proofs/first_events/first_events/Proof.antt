@@ -1,4 +1,4 @@
--- `read_drive::starts::first_events` meets its contract. The loop's invariant: each node passed has begun. Assumes nothing.
+-- `read_drive::first_events::first_events` meets its contract. The loop's invariant: each node passed has begun. Assumes nothing.
 use mathlib.Core.Path.{_≡_, refl, sym}
 use native.Mathlib.Omega.{arith}
 use Prim.Native.Nat.{_≤_, _-_}
@@ -8,8 +8,8 @@ use Rattle.sheet.specs.Refusal.{first}
 use Rattle.sheet.proofs.Rows.{none-yet, passed-each, refused-each, all-passed}
 use Rattle.read_nodes.proofs.Checks.{no-rows, row-met, row-past}
 use Rattle.read_drive.specs.Begun.{unbegunRows}
-use Rattle.read_drive.proofs.starts.first_events.Statement.{statement}
-use Rattle.read_drive.proofs.starts.first_events.Tie as tie
+use Rattle.read_drive.proofs.first_events.first_events.Statement.{statement}
+use Rattle.read_drive.proofs.first_events.first_events.Tie as tie
 
 abbrev Inv-loop : tie.InvT-loop
 Inv-loop nodes begun v₀ v = (v ≤ nodes) × (first (each v (unbegunRows begun)) ≡ finished 0)

@@ -1,4 +1,4 @@
--- `reach::least` meets its contract. The loop's invariant: no node passed leads to itself. Assumes nothing.
+-- `reach::least_on_loop` meets its contract. The loop's invariant: no node passed leads to itself. Assumes nothing.
 use borrow.Author.Needs.{needs}
 use mathlib.Core.Path.{_≡_, sym}
 use Prim.Native.Nat.{_-_, _≤_, min}
@@ -8,8 +8,8 @@ use Rattle.sheet.specs.Outcome.{finished}
 use Rattle.sheet.specs.Refusal.{first}
 use Rattle.sheet.proofs.Rows.{none-yet, all-passed, passed-each, refused-each}
 use Rattle.reach.specs.Links.{entry, diagonalRows}
-use Rattle.reach.proofs.least.Statement.{statement}
-use Rattle.reach.proofs.least.Tie as tie
+use Rattle.reach.proofs.least_on_loop.Statement.{statement}
+use Rattle.reach.proofs.least_on_loop.Tie as tie
 
 abbrev Inv-loop : tie.InvT-loop
 Inv-loop reach nodes n v₀ v = (v ≤ n) × (first (each v (diagonalRows (entry reach))) ≡ finished 0)
@@ -63,8 +63,8 @@ returns-2 c =
     let a = t .before .before .args in
     all-passed (diagonalRows (entry (a .reach .now))) (t .loop .v) (min (a .nodes) 256) (omega arith) (omega arith) (t .loop .inv .1)
 
-pub least-spec : {M : Type 1} → statement M
-least-spec =
+pub least-on-loop-spec : {M : Type 1} → statement M
+least-on-loop-spec =
     tie.close
     (tie.spec
     Inv-loop
