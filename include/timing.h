@@ -85,7 +85,7 @@ enum timing_value {
 /* the changes that may be pending after a tick: */
 #define TIMING_PENDING_LIMIT 4096
 /* bytes that no accepted sheet passes: */
-#define TIMING_LONGEST_SHEET 8456
+#define TIMING_LONGEST_SHEET 8449
 
 /*
  * Both calls:

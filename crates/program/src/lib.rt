@@ -6,7 +6,7 @@ ghost use Rattle.program.specs.Program.{horizonIn, sheetIn, listingOf, p
 // The bytes of the horizon.
 const HORIZON: usize = 4;
 
-// The bytes of an input that are looked at: the horizon, and one more than 8,456, which no accepted sheet passes.
+// The bytes of an input that are looked at: the horizon, and one more than the 8,456 that document 01 counts for the longest sheet.
 pub const INPUT: usize = HORIZON + 8457;
 
 // The horizon: the input's first four bytes, missing ones being 0.

@@ -1,6 +1,7 @@
 //! Every file and every name that docs/PROMISES.md points at is there, and every must-fail edit stands on it.
 
 use std::fs;
+use std::path::PathBuf;
 
 use compare::repository;
 
