@@ -2,7 +2,7 @@
  * Timing networks: checks a sheet, and runs it to a horizon.
  *
  * Link libtiming_c.a, which is compiled for x86-64 Linux. It asks for memcpy and memset alone.
- * What a sheet is, and every word used here, is in document 01; how to begin, in docs/USING.md.
+ * What a sheet is, and every word used here, is in document 01; how to begin, in README.md.
  */
 #ifndef TIMING_H
 #define TIMING_H

@@ -1,4 +1,4 @@
-//! The users' pages have the header's names and calls, and document 01's input.
+//! The README has the header's names and calls, and document 01's input.
 
 use std::fs;
 
@@ -13,7 +13,7 @@ fn text(file: &str) -> String {
 }
 
 fn page() -> String {
-    text("docs/USING.md")
+    text("README.md")
 }
 
 /// The rows "| number | `NAME` | ..".
@@ -52,5 +52,5 @@ fn calls(text: &str) -> Vec<String> {
 fn the_calls_in_the_readme() {
     let declared = calls(&text("include/timing.h"));
     assert_eq!(declared.len(), 2);
-    assert_eq!(calls(&text("README.md")), declared);
+    assert_eq!(calls(&page()), declared);
 }
