@@ -2,20 +2,14 @@
 use crate::record::write_record;
 use sheet::NODES;
 use sheet::WATCHED;
+use sheet::wide;
 ghost use mathlib.Core.Path.{_≡_};
-ghost use Prim.Native.Nat.{ℕ, _+_, _*_, _<_, _≤_};
+ghost use Prim.Native.Nat.{ℕ, _+_, _*_, _≤_};
 ghost use lib.ListN.{length, take};
 ghost use Rattle.sheet.specs.Limits.{mostNodes, mostWatched};
 ghost use Rattle.network.specs.Buffer.{recordSize};
 ghost use Rattle.model.specs.Fresh.{fresh, showAll};
 ghost use Rattle.listing.specs.Record.{written};
-
-// A byte as an index: below 256 without more ado.
-fn wide(x: u8) -> usize
-    ensures { λ r. ⌜ (r ≡ x) × (r < 256) ⌝ }
-{
-    x as usize
-}
 
 // How many of the first n watched nodes have a value that is not the one shown last.
 pub(crate) fn count_fresh(

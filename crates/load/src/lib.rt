@@ -6,6 +6,7 @@ use sheet::INPUT;
 use sheet::MODULES;
 use sheet::Module;
 use sheet::NODES;
+use sheet::wide;
 use tick::TABLE;
 use tick::load_event;
 use tick::load_module;
@@ -93,13 +94,6 @@ pub fn load_values(nodes: [u8; NODES], n: usize, values: &mut [u8; NODES])
         values[v] = first_value(nodes[v]);
         v += 1;
     }
-}
-
-// A byte as an index: below 256 without more ado.
-fn wide(x: u8) -> usize
-    ensures { λ r. ⌜ (r ≡ x) × (r < 256) ⌝ }
-{
-    x as usize
 }
 
 // What the first n modules came to last is the value of their outputs.

@@ -36,15 +36,10 @@ pub struct DriveRead {
 fn no_drive(answer: Answer) -> DriveRead
     ensures { λ r. ⌜ r ≡ record { answer = answer; count = 0; drive = replicate mostEvents noEvent } ⌝ }
 {
-    let none = Event {
-        tick: 0,
-        node: 0,
-        value: 0,
-    };
     DriveRead {
         answer,
         count: 0,
-        drive: [none; EVENTS],
+        drive: [sheet::NO_EVENT; EVENTS],
     }
 }
 

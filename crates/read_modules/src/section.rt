@@ -35,18 +35,10 @@ pub struct ModulesRead {
 fn none_read(answer: Answer) -> ModulesRead
     ensures { λ r. ⌜ r ≡ noneRead answer ⌝ }
 {
-    let none = Module {
-        kind: 0,
-        parameter: 0,
-        output: 0,
-        first: 0,
-        second: 0,
-        delay: 0,
-    };
     ModulesRead {
         answer,
         count: 0,
-        modules: [none; MODULES],
+        modules: [sheet::NO_MODULE; MODULES],
         driven: [false; NODES],
         end: 0,
     }

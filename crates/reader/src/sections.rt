@@ -5,8 +5,6 @@ use sheet::Contents;
 use sheet::Counts;
 use sheet::EVENT_SIZE;
 use sheet::Edition;
-use sheet::Event;
-use sheet::Module;
 ghost use mathlib.Core.List.{List};
 ghost use mathlib.Core.Path.{_≡_};
 ghost use Prim.Native.Nat.{ℕ, _+_, _<_};
@@ -38,19 +36,6 @@ pub(crate) struct Reading {
 pub(crate) fn no_contents() -> Contents
     ensures { λ r. ⌜ Holds noSheet r ⌝ }
 {
-    let module = Module {
-        kind: 0,
-        parameter: 0,
-        output: 0,
-        first: 0,
-        second: 0,
-        delay: 0,
-    };
-    let event = Event {
-        tick: 0,
-        node: 0,
-        value: 0,
-    };
     Contents {
         counts: Counts {
             nodes: 0,
@@ -59,8 +44,8 @@ pub(crate) fn no_contents() -> Contents
             watched: 0,
         },
         nodes: [0; sheet::NODES],
-        modules: [module; sheet::MODULES],
-        drive: [event; sheet::EVENTS],
+        modules: [sheet::NO_MODULE; sheet::MODULES],
+        drive: [sheet::NO_EVENT; sheet::EVENTS],
         watched: [0; sheet::WATCHED],
     }
 }

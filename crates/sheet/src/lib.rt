@@ -1,6 +1,7 @@
 // The sheet's bytes: its records, and reading them.
 use level::Level;
 ghost use mathlib.Core.Path.{_≡_};
+ghost use Prim.Native.Nat.{_<_};
 ghost use Rattle.sheet.specs.Bytes.{byteAt, wordAt, longAt};
 ghost use Rattle.sheet.specs.Layout.{firstEdition, moduleRecord, eventRecord};
 ghost use Rattle.sheet.specs.Reading.{countRead, nodeRead, moduleRead, eventRead};
@@ -89,6 +90,29 @@ pub struct Event {
     pub tick: u32,
     pub node: u8,
     pub value: u8,
+}
+
+// What stands where no record is read.
+pub const NO_MODULE: Module = Module {
+    kind: 0,
+    parameter: 0,
+    output: 0,
+    first: 0,
+    second: 0,
+    delay: 0,
+};
+
+pub const NO_EVENT: Event = Event {
+    tick: 0,
+    node: 0,
+    value: 0,
+};
+
+// A byte as an index: below 256 without more ado.
+pub fn wide(x: u8) -> usize
+    ensures { λ r. ⌜ (r ≡ x) × (r < 256) ⌝ }
+{
+    x as usize
 }
 
 // What stands at a place: the whole of a count or record, or bytes that end inside it.

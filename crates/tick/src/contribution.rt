@@ -1,12 +1,12 @@
 // What a module comes to, and where it goes.
 use crate::TABLE;
-use crate::bytes::wide;
 use level::CONSTANT;
 use level::LAST_OF_ONE;
 use level::Level;
 use level::MEMORY;
 use sheet::MODULES;
 use sheet::NODES;
+use sheet::wide;
 ghost use mathlib.Core.List.{List, [], _∷_};
 ghost use mathlib.Core.Path.{_≡_};
 ghost use Prim.Native.Nat.{ℕ, _<_};

@@ -1,6 +1,5 @@
 // The delayed modules: what each comes to now is scheduled, if it differs from what it came to last.
 use crate::TABLE;
-use crate::bytes::wide16;
 use crate::contribution::comes_to;
 use pending::Store;
 use sheet::MODULES;
@@ -14,6 +13,13 @@ ghost use Rattle.pending.specs.Kept.{arrangement, keptIn, pendingRoom, Sized};
 ghost use Rattle.tick.specs.Tables.{tableAt, modulesIn};
 ghost use Rattle.tick.specs.Rest.{Known, KnownIn, Levels};
 ghost use Rattle.tick.specs.Tick.{scheduled};
+
+// A 16-bit number as a 32-bit one: below 65536 without more ado.
+fn wide16(x: u16) -> u32
+    ensures { λ r. ⌜ (r ≡ x) × (r < 65536) ⌝ }
+{
+    x as u32
+}
 
 // Schedules what the module at position k comes to. Answers how many changes are pending then.
 fn schedule_one(

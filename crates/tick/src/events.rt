@@ -1,7 +1,7 @@
 // The drive's events of a tick.
-use crate::bytes::wide;
 use sheet::EVENTS;
 use sheet::NODES;
+use sheet::wide;
 ghost use mathlib.Core.Path.{_≡_};
 ghost use Prim.Native.Nat.{suc, _≤_};
 ghost use Rattle.sheet.specs.Limits.{mostEvents};

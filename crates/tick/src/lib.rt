@@ -1,6 +1,5 @@
 // The modules' part of a tick, over arrays that the run lends: the drive, the changes due, the modules of delay zero, and what the
 // delayed ones schedule.
-mod bytes;
 mod contribution;
 mod delayed;
 mod due;
