@@ -1,5 +1,5 @@
 -- The starred examples of document 01, as one table, and its worked run whole. Assumes nothing.
-use lib.ListN.{replicate}
+use lib.ListN.{length, replicate}
 use mathlib.Core.List.{[], _∷_}
 use mathlib.Core.Path.{_≡_, refl}
 use Prim.Native.Nat.{ℕ}
@@ -13,6 +13,7 @@ use Rattle.sheet.specs.WorkingOrder.{leadingTo, workingOrder}
 use Rattle.format.specs.Encode.{allBytes}
 use Rattle.network.specs.Buffer.{bufferAfter}
 use Rattle.network.specs.Examples.{workedSheet, memorySheet, examples}
+use Rattle.network.specs.LaterEvents.{eventsBelow}
 use Rattle.network.specs.Listing.{recordsAt, Record}
 use Rattle.network.specs.Run.{wrote, firstTick, writtenOf, ran}
 use Rattle.network.specs.Timeline.{given, driveCell, latest}
@@ -52,3 +53,8 @@ pub worked-buffer : bufferAfter (ran firstEdition workedSheet 12 38 .records) (r
     ∷ 99 ∷ 99 ∷ []
 unfolding sheetOf checked rows bytesRows first notAboveEvent notAboveWatched workingOrder leadingTo leadsOver anyBelow each given driveCell latest unworked work workAll worked recordsAt firstTick writtenOf ran bufferAfter allBytes
 worked-buffer = refl
+
+-- of its two events, at ticks 0 and 5, one is below horizon 5, and both are below horizon 6
+pub events-below : (length (eventsBelow 5 (sheetOf firstEdition workedSheet .drive)) ≡ 1) × (length (eventsBelow 6 (sheetOf firstEdition workedSheet .drive)) ≡ 2)
+unfolding sheetOf eventsBelow each
+events-below = (refl, refl)
