@@ -5,14 +5,14 @@ use borrow.Author.Tests.{eq-eqb, ne-eqb, lt-ltb, le-ltb}
 use mathlib.Core.Bool.{false}
 use mathlib.Core.List.{List}
 use mathlib.Core.Logic.{_↔_, _⊎_, inl, inr, ⊎-elim}
-use mathlib.Core.Path.{_≡_, sym, _∙_, subst}
+use mathlib.Core.Path.{_≡_, refl, sym, ap, _∙_, subst}
 use native.Mathlib.Decide.{ℕ-discrete, decLe}
 use native.Mathlib.Nat.{not-suc-le-zero}
 use native.Mathlib.Omega.{arith}
 use Prim.Native.Nat.{ℕ, zero, suc, _<_, _≤_}
 use Rattle.sheet.specs.Layout.{sheetOf}
 use Rattle.sheet.specs.Limits.{pendingLimit, greatestHorizon}
-use Rattle.sheet.specs.Outcome.{finished}
+use Rattle.sheet.specs.Outcome.{Outcome, finished, refused}
 use Rattle.sheet.specs.Refusal.{checked}
 use Rattle.sheet.specs.Sheet.{Sheet}
 use Rattle.sheet.specs.declared.Edition.{Edition}
@@ -20,14 +20,12 @@ use Rattle.format.specs.Accepted.{Known}
 use Rattle.format.proofs.Accepted.{accepted}
 use Rattle.format.proofs.Theorems.{refusals, no-refusal}
 use Rattle.network.specs.Buffer.{room}
-use Rattle.network.specs.Listing.{listing, pending}
+use Rattle.network.specs.Listing.{Record, listing, pending}
 use Rattle.network.specs.Run.{Written, ran, horizonOutside, writtenOf}
 use Rattle.network.specs.RunConditions.{Passes, Begins, RunCondition, horizon-outside, sheet-refused, no-room, crowded, whole}
 use Rattle.network.specs.Satisfied.{Satisfied}
 use Rattle.network.specs.Timeline.{Cells}
-use Rattle.level.proofs.Computed.{below}
-use Rattle.sheet.proofs.Rows.{passed}
-use Rattle.network.proofs.Fits.{fits}
+use Rattle.sheet.proofs.Rows.{finished≢refused}
 use Rattle.network.proofs.Runs.{checks, ran-outside, ran-refused, ran-satisfied, ran-sheet}
 use Rattle.network.proofs.Outcome as outcome
 
@@ -99,3 +97,22 @@ module _ {E : Edition} (known : Known E) (s : List ℕ) (horizon bytes : ℕ) (c
   -- The answer and the records of a run are those whose condition is met, and no other condition is.
   pub run-conditions : (w : Written) → (ran E s horizon bytes ≡ w) ↔ RunCondition E s cells horizon bytes w
   run-conditions w = (λ e. subst (RunCondition E s cells horizon bytes) (sym (writes (some .0) (some .1)) ∙ e) (some .1), writes w)
+
+-- A run that has finished: it began, every tick passed, and all records are written and counted.
+pub record FinishedRun (E : Edition) (s : List ℕ) (c : Cells) (horizon bytes count : ℕ) (records : List Record) : Type 0 where
+  pub begins : Begins E s horizon
+  pub passes : (t : ℕ) → t < horizon → Passes E s c horizon bytes t
+  pub listed : records ≡ listing (sheetOf E s) c horizon
+  pub counted : count ≡ length records
+
+count-of : {m n : ℕ} → finished m ≡ finished n → m ≡ n
+count-of e = ap (λ (o : Outcome). elim o [ finished k ↦ k | refused a b c ↦ 0 ]) e
+
+module _ {E : Edition} {s : List ℕ} {c : Cells} {horizon bytes : ℕ} where
+  pub finished-run : (w : Written) → RunCondition E s c horizon bytes w → (count : ℕ) → w .answer ≡ finished count
+      → FinishedRun E s c horizon bytes count (w .records)
+  finished-run w (horizon-outside h) count e = absurd (finished≢refused (sym e))
+  finished-run w (sheet-refused h k r) count e = absurd (finished≢refused (sym e))
+  finished-run w (no-room t f o) count e = absurd (finished≢refused (sym e))
+  finished-run w (crowded t f r p) count e = absurd (finished≢refused (sym e))
+  finished-run w (whole b all) count e = record { begins = b; passes = all; listed = refl; counted = sym (count-of e) }

@@ -7,18 +7,15 @@ use lib.ListN.{length, take, drop, length-append}
 use lib.Seq.{take-all, take-at}
 use Rattle.sheet.specs.Layout.{firstEdition, sheetOf}
 use Rattle.sheet.specs.Outcome.{Outcome, finished, refused}
-use Rattle.sheet.proofs.Rows.{finished≢refused}
 use Rattle.format.specs.Accepted.{the-first}
-use Rattle.format.proofs.Accepted.{accepted}
-use Rattle.format.proofs.Theorems.{no-refusal}
 use Rattle.network.specs.Listing.{Record, listing}
 use Rattle.network.specs.Timeline.{Cells}
 use Rattle.network.specs.Buffer.{room}
 use Rattle.network.specs.Run.{Written, cellsOf, ran}
-use Rattle.network.specs.RunConditions.{RunCondition, horizon-outside, sheet-refused, no-room, crowded, whole}
-use Rattle.network.proofs.Listing.{listing-of, watched-bytes}
-use Rattle.network.proofs.RunConditions.{run-conditions}
-use Rattle.network.proofs.Demand2.{timelines-exist}
+use Rattle.network.specs.Demand2.{RunOf}
+use Rattle.network.proofs.Listing.{watched-bytes}
+use Rattle.network.proofs.RunConditions.{finished-run}
+use Rattle.network.proofs.Demand2.{demand-2, sheet-accepted, timelines-exist}
 use Rattle.text.specs.Decimal.{decimal}
 use Rattle.text.specs.Lent.{Printed}
 use Rattle.text.specs.Printing.{blank, newline, recordsWord, refusedWord, printedText}
@@ -32,9 +29,6 @@ pub record Ended (bytes n : ℕ) (records : List Record) : Type 0 where
   pub fits : n ≤ room bytes
   pub small : (r : Record) → List·Memᴰ r records → (r .tick < 1000000) × (r .node < 256)
 
-count-of : {m n : ℕ} → finished m ≡ finished n → m ≡ n
-count-of e = ap (λ (o : Outcome). elim o [ finished k ↦ k | refused a b c ↦ 0 ]) e
-
 last-tick : {horizon : ℕ} → 0 < horizon → suc (horizon - 1) ≡ horizon
 last-tick h = omega arith
 
@@ -42,26 +36,22 @@ module _ (s : List ℕ) (horizon bytes : ℕ) where
   abbrev cells : Cells
   cells = cellsOf (sheetOf firstEdition s) horizon
 
-  ended-so : (n : ℕ) (w : Written) → RunCondition firstEdition s cells horizon bytes w → w .answer ≡ finished n → Ended bytes n (w .records)
-  ended-so n w (horizon-outside h) e = absurd (finished≢refused (sym e))
-  ended-so n w (sheet-refused h k r) e = absurd (finished≢refused (sym e))
-  ended-so n w (no-room t f o) e = absurd (finished≢refused (sym e))
-  ended-so n w (crowded t f r p) e = absurd (finished≢refused (sym e))
-  ended-so n w (whole b all) e =
-      record {
-        counted = sym (count-of e);
-        fits = omega (arith, count-of e, subst (λ k. length (listing (sheetOf firstEdition s) cells k) ≤ room bytes) (last-tick (b .some-tick)) (all (horizon - 1) (omega (arith, b .some-tick)) .room-left));
-        small = λ r m.
-            let S = sheetOf firstEdition s in
-            let acc = accepted firstEdition the-first s (no-refusal the-first s .1 (b .none-met)) .sheet in
-            let shown = listing-of S acc cells horizon .shown r m in
-            (omega (arith, shown .below, b .few-ticks), watched-bytes S acc (r .node) (shown .watched));
-      }
+  run-of : RunOf firstEdition s horizon bytes cells
+  run-of = demand-2 the-first s horizon bytes cells (timelines-exist the-first s horizon)
 
   pub ended : (n : ℕ) → ran firstEdition s horizon bytes .answer ≡ finished n → Ended bytes n (ran firstEdition s horizon bytes .records)
-  ended n =
-      ended-so n (ran firstEdition s horizon bytes)
-      (run-conditions the-first s horizon bytes cells (timelines-exist the-first s horizon) (ran firstEdition s horizon bytes) .0 refl)
+  ended n e =
+      let S = sheetOf firstEdition s in
+      let f = finished-run (ran firstEdition s horizon bytes) (run-of .answers (ran firstEdition s horizon bytes) .0 refl) n e in
+      let b = f .begins in
+      let room-left = f .passes (horizon - 1) (omega (arith, b .some-tick)) .room-left in
+      record {
+        counted = f .counted;
+        fits = omega (arith, f .counted, ap length (f .listed), subst (λ k. length (listing S cells k) ≤ room bytes) (last-tick (b .some-tick)) room-left);
+        small = λ r m.
+            let shown = run-of .lists n e .shown r m in
+            (omega (arith, shown .below, b .few-ticks), watched-bytes S (sheet-accepted the-first s horizon b) (r .node) (shown .watched));
+      }
 
 module _ (input listing : List ℕ) where
   abbrev run : Written
