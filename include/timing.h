@@ -1,5 +1,5 @@
 /*
- * Timing networks: checks a sheet, and runs it to a horizon.
+ * Timing networks: checks a sheet, runs it to a horizon, and says in words what a call answers.
  *
  * Link libtiming_c.a, which is compiled for x86-64 Linux. It asks for memcpy and memset alone.
  * What a sheet is, and every word used here, is in document 01; how to begin, in README.md.
@@ -16,10 +16,10 @@ extern "C" {
 
 /*
  * answer[0], the number. A call answers TIMING_FINISHED, or the first refusal that the sheet, read
- * front to back, or the run meets. Checking gives 0 and 2 to 18, a run 0 to 20.
+ * front to back, or the run meets. Checking gives 0 and 2 to 18, a run 0 to 20, describing 0 and 21.
  */
 enum timing_number {
-    TIMING_FINISHED = 0, /* the sheet is accepted, or the run has reached its horizon */
+    TIMING_FINISHED = 0, /* the sheet is accepted, the run has reached its horizon, or the text is written */
 
     /* Before reading; the place is 0. */
     TIMING_HORIZON_OUTSIDE = 1, /* horizon 0 or above 1,000,000 */
@@ -55,7 +55,10 @@ enum timing_number {
 
     /* While running; the place is the tick. */
     TIMING_NO_ROOM = 19, /* the listing's buffer cannot take all records of this tick: lend more */
-    TIMING_CROWDED = 20  /* more than 4,096 changes are pending after this tick */
+    TIMING_CROWDED = 20, /* more than 4,096 changes are pending after this tick */
+
+    /* While describing; the place is the length needed. */
+    TIMING_TEXT_SHORT = 21 /* the text's buffer is shorter than the sentence */
 };
 
 /* The values of a cell, as they stand in a listing. */
@@ -86,32 +89,35 @@ enum timing_value {
 #define TIMING_PENDING_LIMIT 4096
 /* bytes that no accepted sheet passes: */
 #define TIMING_LONGEST_SHEET 8449
+/* bytes that no sentence passes: */
+#define TIMING_LONGEST_SENTENCE 200
 
 /*
- * Both calls:
+ * All calls:
  *
- * answer[0] is the number, answer[1] the place (0 where the number is 0) and answer[2] the count of
- * records written. All three are written by every call.
+ * answer[0] is the number, answer[1] the place (0 where the number is 0) and answer[2] the count: of
+ * records written, or of the bytes of a sentence. All three are written by every call.
  *
- * Nothing is asked of the sheet's bytes, the horizon and the lengths; listing and answer may hold
+ * Nothing is asked of the sheet's bytes, of numbers and of lengths; listing, text and answer may hold
  * anything before. Of the memory:
  * - No pointer is null, also where its length is 0: then nothing is read or written through it, and
  *   any other address will do. answer is aligned for its type.
- * - sheet has as many bytes as length says, listing as many as bytes says, answer three words. Before
- *   the call returns nobody else writes to the sheet, or reads or writes listing and answer.
- * - The three areas do not overlap. The calls are proved, and compiled, for areas of their own: a
+ * - sheet has as many bytes as length says, listing and text as many as bytes says, answer three words.
+ *   Before the call returns nobody else writes to the sheet, or reads or writes the other areas.
+ * - The areas of a call do not overlap. The calls are proved, and compiled, for areas of their own: a
  *   record written over the sheet or the answer would change what they take for unchanged.
  *
- * Neither keeps anything between calls or touches other memory than the lent areas and the stack, so
- * both may be called from several threads at once. Every call ends.
+ * None keeps anything between calls or touches other memory than the lent areas and the stack, so
+ * all may be called from several threads at once. Every call ends.
  */
 
 /*
- * The bytes of stack that a call uses below its caller's frame, whatever the sheet: measured (214.3
- * and 234.2 KiB) and rounded up to 16 KiB. A thread needs some for itself besides.
+ * The bytes of stack that a call uses below its caller's frame, whatever it is given: measured (214.3,
+ * 234.2 and 3.2 KiB) and rounded up, the first two to 16 KiB. A thread needs some for itself besides.
  */
 #define TIMING_CHECK_STACK 229376
 #define TIMING_RUN_STACK 245760
+#define TIMING_DESCRIBE_STACK 4096
 
 /* Checks the sheet without running it. The count is always 0. */
 void timing_check(const uint8_t *sheet, size_t length, uint32_t answer[3]);
@@ -127,6 +133,18 @@ void timing_check(const uint8_t *sheet, size_t length, uint32_t answer[3]);
  */
 void timing_run(const uint8_t *sheet, size_t length, uint32_t horizon, uint8_t *listing, size_t bytes,
                 uint32_t answer[3]);
+
+/*
+ * Describes an answer, given by its three words, as a sentence in plain words: what is wrong, the place
+ * and what it counts, the count of records. Number 0 is a finished call, whose place is not looked at;
+ * a number without a phrase is written as itself. Two different answers never have the same text. The
+ * sentence has no line's end and no byte 0 at its end.
+ *
+ * Finished: the sentence stands first in the text, the count is its length, and the bytes past it are
+ * as they were. TIMING_TEXT_SHORT: the text is as it was.
+ */
+void timing_describe(uint32_t number, uint32_t place, uint32_t count, uint8_t *text, size_t bytes,
+                     uint32_t answer[3]);
 
 #ifdef __cplusplus
 }

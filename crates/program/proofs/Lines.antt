@@ -1,13 +1,9 @@
 -- What is printed of a run, by its records: a line for each of them, in a text of known length. Assumes nothing.
-use borrow.Author.Tests.{ltb-false}
-use mathlib.Core.Bool.{Bool, true, false}
 use mathlib.Core.List.{List, [], _∷_, _++_, append-nil, List·Memᴰ, List·Memᴰ·head, List·Memᴰ·tail}
 use mathlib.Core.Path.{_≡_, refl, ap, _∙_}
 use native.Mathlib.Omega.{arith}
-use Prim.Native.Nat.{ℕ, zero, suc, _*_, _/_, _%_, _^_, _<_, _≤_}
-use lib.Dec.{ltb}
+use Prim.Native.Nat.{ℕ, zero, suc, _*_, _^_, _<_, _≤_}
 use lib.ListN.{length, getD, length-append}
-use Rattle.level.specs.Choice.{if_then_else_}
 use Rattle.level.specs.Level.{printed}
 use Rattle.sheet.specs.Enumerate.{each, listed}
 use Rattle.sheet.proofs.Each.{each-same}
@@ -17,7 +13,8 @@ use Rattle.format.proofs.AllBytes.{allBytes-append}
 use Rattle.network.specs.Listing.{Record}
 use Rattle.network.specs.Buffer.{bufferAfter}
 use Rattle.listing.proofs.ReadBack.{read-back}
-use Rattle.text.specs.Decimal.{digit, digits, decimal}
+use Rattle.lent.specs.Decimal.{decimal}
+use Rattle.lent.proofs.Digits.{few-digits}
 use Rattle.text.specs.Printing.{blank, newline, recordLine, recordLines}
 
 -- the lines of records, one after the other
@@ -39,18 +36,6 @@ lines-printed records buffer n count small =
     none : Record
     none = record { tick = 0; node = 0; value = 0 }
 
--- a number below a power of ten has at most so many digits
-pub few-digits : (most k n : ℕ) → n < 10 ^ suc k → length (digits most n) ≤ suc k
-unfolding digits
-few-digits zero k n h = omega arith
-few-digits (suc most) k n h = here (ltb n 10) refl k (few-digits most) h
-  where
-    here : (b : Bool) → ltb n 10 ≡ b → (k : ℕ) → ((k n : ℕ) → n < 10 ^ suc k → length (digits most n) ≤ suc k) → n < 10 ^ suc k
-        → length (if b then digit n ∷ [] else digits most (n / 10) ++ digit (n % 10) ∷ []) ≤ suc k
-    here true e k rest h = omega arith
-    here false e zero rest h = absurd (omega (arith, ltb-false n 10 e))
-    here false e (suc k) rest h = rw (length-append (digits most (n / 10)) (digit (n % 10) ∷ [])) (omega (arith, rest k (n / 10) (omega (arith, h))))
-
 -- the longest line has 13 bytes: a tick of six digits and a node of three
 line-length : (r : Record) → r .tick < 1000000 → r .node < 1000 → length (recordLine r) ≤ 13
 line-length r h k =
@@ -64,13 +49,3 @@ lines-length [] small = omega arith
 lines-length (r ∷ rs) small =
     let here = small r (List·Memᴰ·head refl) in
     rw (length-append (recordLine r) (linesOf rs)) (omega (arith, line-length r (here .0) (here .1), lines-length rs (λ q m. small q (List·Memᴰ·tail m))))
-
--- and no number printed has more than ten digits
-pub at-most-ten : (most n : ℕ) → length (digits most n) ≤ most
-unfolding digits
-at-most-ten zero n = omega arith
-at-most-ten (suc most) n = here (ltb n 10) (at-most-ten most)
-  where
-    here : (b : Bool) → ((n : ℕ) → length (digits most n) ≤ most) → length (if b then digit n ∷ [] else digits most (n / 10) ++ digit (n % 10) ∷ []) ≤ suc most
-    here true rest = omega arith
-    here false rest = rw (length-append (digits most (n / 10)) (digit (n % 10) ∷ [])) (omega (arith, rest (n / 10)))

@@ -1,10 +1,11 @@
--- The program prints all of its text: after a finished run the count and a line for each record of the run, and the lent text takes it whole. Assumes nothing.
+-- The program prints all of its text: the answer's sentence and, after a finished run, a line for each record of the run, and the lent
+-- text takes it whole. Assumes nothing.
 use mathlib.Core.List.{List, [], _∷_, _++_, List·Memᴰ}
 use mathlib.Core.Path.{_≡_, refl, sym, ap, _∙_, subst}
 use native.Mathlib.Omega.{arith}
 use Prim.Native.Nat.{ℕ, suc, _-_, _<_, _≤_}
 use lib.ListN.{length, take, drop, length-append}
-use lib.Seq.{take-all, take-at}
+use lib.Seq.{take-at}
 use Rattle.sheet.specs.Layout.{firstEdition, sheetOf}
 use Rattle.sheet.specs.Outcome.{Outcome, finished, refused}
 use Rattle.format.specs.Accepted.{the-first}
@@ -16,12 +17,15 @@ use Rattle.network.specs.Demand2.{RunOf}
 use Rattle.network.proofs.Listing.{watched-bytes}
 use Rattle.network.proofs.RunConditions.{finished-run}
 use Rattle.network.proofs.Demand2.{demand-2, sheet-accepted, timelines-exist}
-use Rattle.text.specs.Decimal.{decimal}
-use Rattle.text.specs.Lent.{Printed}
-use Rattle.text.specs.Printing.{blank, newline, recordsWord, refusedWord, printedText}
+use Rattle.lent.specs.Lent.{Printed}
+use Rattle.lent.proofs.Digits.{few-digits}
+use Rattle.lent.proofs.Putting.{whole}
+use Rattle.sentence.specs.Sentence.{sentence}
+use Rattle.sentence.proofs.Longest.{finished-length, longest-sentence}
+use Rattle.text.specs.Printing.{newline, printedText}
 use Rattle.program.specs.Program.{sheetIn, horizonIn, runOf, listingOf, programText}
 use Rattle.program.specs.Room.{lentBytes, textBytes}
-use Rattle.program.proofs.Lines.{linesOf, lines-printed, lines-length, few-digits, at-most-ten}
+use Rattle.program.proofs.Lines.{linesOf, lines-printed, lines-length}
 
 -- of a finished run: the count is that of the records, which the buffer takes, and their ticks and nodes are in range
 pub record Ended (bytes n : ℕ) (records : List Record) : Type 0 where
@@ -57,52 +61,43 @@ module _ (input listing : List ℕ) where
   abbrev run : Written
   run = runOf input (length listing)
 
-  -- after a finished run: the word, the count, and a line for each record of the run
-  pub records-printed : (n : ℕ) → run .answer ≡ finished n → programText input listing ≡ recordsWord ++ blank ∷ decimal n ++ newline ∷ linesOf (run .records)
+  -- after a finished run: its sentence, and a line for each record of the run
+  pub records-printed : (n : ℕ) → run .answer ≡ finished n → programText input listing ≡ sentence (finished n) ++ newline ∷ linesOf (run .records)
   unfolding programText printedText
   records-printed n e =
       let x = ended (sheetIn input) (horizonIn input) (length listing) n e in
       ap (λ o. printedText o (listingOf input listing)) e
-      ∙ ap (λ l. recordsWord ++ blank ∷ decimal n ++ newline ∷ l) (lines-printed (run .records) listing n (x .counted) (λ r m. omega (arith, x .small r m .0)))
+      ∙ ap (λ l. sentence (finished n) ++ newline ∷ l) (lines-printed (run .records) listing n (x .counted) (λ r m. omega (arith, x .small r m .0)))
 
-  -- after a refusal: the word, its number and its place
-  pub refusal-printed : (n p k : ℕ) → run .answer ≡ refused n p k → programText input listing ≡ refusedWord ++ blank ∷ decimal n ++ blank ∷ decimal p ++ newline ∷ []
+  -- after a refusal: its sentence alone
+  pub refusal-printed : (n p k : ℕ) → run .answer ≡ refused n p k → programText input listing ≡ sentence (refused n p k) ++ newline ∷ []
   unfolding programText printedText
   refusal-printed n p k e = ap (λ o. printedText o (listingOf input listing)) e
 
 -- The text that the program lends takes all that is printed.
 module _ (input listing : List ℕ) (lent : length listing ≡ lentBytes) where
-  finished-length : (n : ℕ) → run input listing .answer ≡ finished n → length (programText input listing) ≤ textBytes
-  finished-length n e =
+  finished-fits : (n : ℕ) → run input listing .answer ≡ finished n → length (programText input listing) ≤ textBytes
+  finished-fits n e =
       let x = ended (sheetIn input) (horizonIn input) (length listing) n e in
       let count : n ≤ 10000 = omega (arith, x .fits, lent) in
-      let digits : length (decimal n) ≤ 5 = few-digits 10 4 n (omega (arith, count)) in
+      let digits = few-digits 10 4 n (omega (arith, count)) in
       let lines = lines-length (run input listing .records) (λ r m. (x .small r m .0, omega (arith, x .small r m .1))) in
       rw (records-printed input listing n e)
-      (omega (arith, count, digits, lines, x .counted, length-append (recordsWord ++ blank ∷ decimal n) (newline ∷ linesOf (run input listing .records)), length-append recordsWord (blank ∷ decimal n)))
+      (omega (arith, count, digits, finished-length n, lines, x .counted, length-append (sentence (finished n)) (newline ∷ linesOf (run input listing .records))))
 
-  refused-length : (n p k : ℕ) → run input listing .answer ≡ refused n p k → length (programText input listing) ≤ textBytes
-  refused-length n p k e =
-      rw (refusal-printed input listing n p k e)
-      (omega (arith, at-most-ten 10 n, at-most-ten 10 p, length-append (refusedWord ++ blank ∷ decimal n ++ blank ∷ decimal p) (newline ∷ []), length-append (refusedWord ++ blank ∷ decimal n) (blank ∷ decimal p), length-append refusedWord (blank ∷ decimal n)))
+  refused-fits : (n p k : ℕ) → run input listing .answer ≡ refused n p k → length (programText input listing) ≤ textBytes
+  refused-fits n p k e =
+      rw (refusal-printed input listing n p k e) (omega (arith, longest-sentence (refused n p k), length-append (sentence (refused n p k)) (newline ∷ [])))
 
   pub room-for-all : length (programText input listing) ≤ textBytes
   room-for-all = by (run input listing .answer) refl
     where
       by : (o : Outcome) → run input listing .answer ≡ o → length (programText input listing) ≤ textBytes
-      by (finished n) e = finished-length n e
-      by (refused n p k) e = refused-length n p k e
+      by (finished n) e = finished-fits n e
+      by (refused n p k) e = refused-fits n p k e
 
   -- so what is printed is the program's text, whole
   pub all-printed : {start text : List ℕ} {at : ℕ} → length start ≡ textBytes → Printed start (programText input listing) text at → (at ≡ length (programText input listing)) × (take at text ≡ programText input listing)
-  all-printed {start} {text} {at} size p = (
-    whole-length,
-    ap (take at) (p .holds ∙ ap (λ l. l ++ drop (length printed) start) (take-all (length start) printed (omega (arith, room-for-all, size))))
-        ∙ take-at printed (drop (length printed) start) at (sym whole-length),
-  )
-    where
-      printed : List ℕ
-      printed = programText input listing
-
-      whole-length : at ≡ length (programText input listing)
-      whole-length = p .place ∙ omega (arith, room-for-all, size)
+  all-printed {start} {text} {at} size p =
+      let all = whole p (omega (arith, room-for-all, size)) in
+      (all .0, ap (take at) (all .1) ∙ take-at (programText input listing) (drop (length (programText input listing)) start) at (sym (all .0)))

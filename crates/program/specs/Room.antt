@@ -5,6 +5,6 @@ use Rattle.network.specs.Buffer.{room}
 abbrev pub lentBytes : ℕ
 lentBytes = 60000
 
--- a first line of 14 bytes, and a line of 13 for each record that the listing takes
+-- a first line of 32 bytes, and a line of 13 for each record that the listing takes; a refusal's one line is far shorter
 abbrev pub textBytes : ℕ
-textBytes = 14 + 13 * room lentBytes
+textBytes = 32 + 13 * room lentBytes

@@ -1,6 +1,6 @@
 // The program as a function of its input: the horizon and the sheet are run, and the answer and its records printed.
 ghost use mathlib.Core.Path.{_≡_};
-ghost use Rattle.text.specs.Lent.{Printed};
+ghost use Rattle.lent.specs.Lent.{Printed};
 ghost use Rattle.program.specs.Program.{horizonIn, sheetIn, listingOf, programText};
 
 // The bytes of the horizon.

@@ -2,6 +2,8 @@
 -- place and count of records written.
 use mathlib.Core.List.{List, [], _∷_}
 use Prim.Native.Nat.{ℕ}
+use lib.Dec.{eqb}
+use Rattle.level.specs.Choice.{if_then_else_}
 use Rattle.sheet.specs.declared.Answer.{Answer}
 use Rattle.sheet.specs.declared.Answer.the-variants.{Ran, Refused}
 
@@ -18,3 +20,7 @@ outcomeOf (Refused number place count) = refused number place count
 abbrev pub numbers : Outcome → List ℕ
 numbers (finished count) = 0 ∷ 0 ∷ count ∷ []
 numbers (refused number place count) = number ∷ place ∷ count ∷ []
+
+-- the answer that three numbers from such a caller stand for: number 0 is a finished call, and its place is not looked at
+abbrev pub fromNumbers : ℕ → ℕ → ℕ → Outcome
+fromNumbers number place count = if eqb number 0 then finished count else refused number place count

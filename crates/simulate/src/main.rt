@@ -1,4 +1,4 @@
-// Reads a horizon and a sheet from standard input, runs the sheet and prints its listing.
+// Reads a horizon and a sheet from standard input, runs the sheet and prints the answer's sentence and its listing.
 ghost use mathlib.Core.Path.{_≡_};
 ghost use Prim.Native.Nat.{_≤_};
 ghost use lib.ListN.{length, take};
@@ -8,8 +8,8 @@ ghost use Rattle.program.specs.Room.{lentBytes, textBytes};
 // The bytes that are lent for the listing.
 const LISTING: usize = 60000;
 
-// The longest text: a first line of 14 bytes, and 10,000 lines of 13.
-const TEXT: usize = 130014;
+// The longest text: a first line of 32 bytes, and 10,000 lines of 13.
+const TEXT: usize = 130032;
 
 // Runs the input's sheet and prints its text, which the lent array takes whole. Answers the text's bytes.
 fn print_whole(input: &[u8], listing: &mut [u8; LISTING], text: &mut [u8; TEXT]) -> usize

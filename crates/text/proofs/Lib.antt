@@ -1,4 +1,2 @@
 -- The laws of this crate that belong to no one function.
-pub mod Putting
-pub mod Digits
 pub mod Examples

@@ -1,6 +1,8 @@
--- Document 01, "The program and one complete run": the listing's bytes and what is printed of it, line by line.
+-- Document 01, "The program and one complete run": the listing's bytes and what is printed of it, the first line as document 02's
+-- W-201 has it.
 use mathlib.Core.List.{List, [], _∷_}
 use Prim.Native.Nat.{ℕ}
+use Prim.Native.String.{String}
 
 -- six records of the worked run
 abbrev pub workedListing : List ℕ
@@ -12,17 +14,8 @@ workedListing =
     ∷ 8 ∷ 0 ∷ 0 ∷ 0 ∷ 1 ∷ 0
     ∷ 11 ∷ 0 ∷ 0 ∷ 0 ∷ 1 ∷ 1 ∷ []
 
--- "records 6", and a line per record
-abbrev pub workedText : List ℕ
-workedText =
-    114 ∷ 101 ∷ 99 ∷ 111 ∷ 114 ∷ 100 ∷ 115 ∷ 32 ∷ 54 ∷ 10
-    ∷ 48 ∷ 32 ∷ 48 ∷ 32 ∷ 48 ∷ 10
-    ∷ 48 ∷ 32 ∷ 49 ∷ 32 ∷ 88 ∷ 10
-    ∷ 51 ∷ 32 ∷ 49 ∷ 32 ∷ 49 ∷ 10
-    ∷ 53 ∷ 32 ∷ 48 ∷ 32 ∷ 49 ∷ 10
-    ∷ 56 ∷ 32 ∷ 49 ∷ 32 ∷ 48 ∷ 10
-    ∷ 49 ∷ 49 ∷ 32 ∷ 49 ∷ 32 ∷ 49 ∷ 10 ∷ []
+abbrev pub workedText : String
+workedText = "finished, with a count of 6\n0 0 0\n0 1 X\n3 1 1\n5 0 1\n8 1 0\n11 1 1\n"
 
--- "refused 19 11"
-abbrev pub refusalText : List ℕ
-refusalText = 114 ∷ 101 ∷ 102 ∷ 117 ∷ 115 ∷ 101 ∷ 100 ∷ 32 ∷ 49 ∷ 57 ∷ 32 ∷ 49 ∷ 49 ∷ 10 ∷ []
+abbrev pub refusalText : String
+refusalText = "refused: the listing has no room for all records of a tick, at tick 11; records written: 5\n"

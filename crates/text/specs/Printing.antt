@@ -1,4 +1,4 @@
--- Document 01, "The program and one complete run": what is printed of an answer and the listing's bytes.
+-- Document 01, "The program and one complete run", with document 02's W-201: what is printed of an answer and the listing's bytes.
 use mathlib.Core.List.{List, [], _∷_, _++_}
 use Prim.Native.Nat.{ℕ, _*_}
 use Rattle.level.specs.Level.{printed}
@@ -6,20 +6,14 @@ use Rattle.sheet.specs.Enumerate.{each}
 use Rattle.sheet.specs.Outcome.{Outcome, finished, refused}
 use Rattle.network.specs.Listing.{Record}
 use Rattle.network.specs.Buffer.{recordSize, recordIn}
-use Rattle.text.specs.Decimal.{decimal}
+use Rattle.lent.specs.Decimal.{decimal}
+use Rattle.sentence.specs.Sentence.{sentence}
 
 abbrev pub blank : ℕ
 blank = 32
 
 abbrev pub newline : ℕ
 newline = 10
-
--- "records" and "refused"
-abbrev pub recordsWord : List ℕ
-recordsWord = 114 ∷ 101 ∷ 99 ∷ 111 ∷ 114 ∷ 100 ∷ 115 ∷ []
-
-abbrev pub refusedWord : List ℕ
-refusedWord = 114 ∷ 101 ∷ 102 ∷ 117 ∷ 115 ∷ 101 ∷ 100 ∷ []
 
 -- tick, node, value: the first two in decimal and the value as 0, 1, X or Z
 abbrev pub recordLine : Record → List ℕ
@@ -33,7 +27,11 @@ listedRecord listing i = recordIn listing (recordSize * i)
 abbrev pub recordLines : ℕ → List ℕ → List ℕ
 recordLines count listing = each count (λ i. recordLine (listedRecord listing i))
 
--- `records` and the count, then a line per record; a refusal prints `refused`, number and place, and no record
+-- a finished run's records; after a refusal, records are not printed
+abbrev pub linesAfter : Outcome → List ℕ → List ℕ
+linesAfter (finished count) listing = recordLines count listing
+linesAfter (refused number place count) listing = []
+
+-- the answer's sentence in the first line, then a line per record
 unfoldable pub printedText : Outcome → List ℕ → List ℕ
-printedText (finished count) listing = recordsWord ++ blank ∷ decimal count ++ newline ∷ recordLines count listing
-printedText (refused number place count) listing = refusedWord ++ blank ∷ decimal number ++ blank ∷ decimal place ++ newline ∷ []
+printedText o listing = sentence o ++ newline ∷ linesAfter o listing

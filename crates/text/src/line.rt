@@ -1,13 +1,14 @@
 // The line of a record.
-use crate::put::put;
-use crate::put::put_decimal;
-use crate::put::put_field;
+use lent::put;
+use lent::put_decimal;
 use level::Level;
 use listing::record_at;
+ghost use mathlib.Core.List.{_∷_};
 ghost use mathlib.Core.Path.{_≡_};
 ghost use Rattle.level.specs.Level.{printed};
-ghost use Rattle.text.specs.Printing.{recordLine, listedRecord, recordLines};
-ghost use Rattle.text.specs.Lent.{Prints};
+ghost use Rattle.lent.specs.Decimal.{decimal};
+ghost use Rattle.lent.specs.Lent.{Prints};
+ghost use Rattle.text.specs.Printing.{blank, recordLine, listedRecord, recordLines};
 
 // The byte that prints a value, of a byte that need not be one: as X where it is none.
 fn value_byte(value: u8) -> u8
@@ -18,6 +19,14 @@ fn value_byte(value: u8) -> u8
     } else {
         Level::printed(Level::UNKNOWN)
     }
+}
+
+// Puts a blank and a number in decimal.
+fn put_field(text: &mut [u8], at: usize, n: u32) -> usize
+    ensures { λ r. ⌜ Prints (blank ∷ decimal n) (now (text .entry)) at (now (text .exit)) r ⌝ }
+{
+    let first = put(text, at, b' ');
+    put_decimal(text, first, n)
 }
 
 // Puts the line of record number i of the listing: tick, node, value.

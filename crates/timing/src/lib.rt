@@ -1,4 +1,5 @@
 // The library: what users call, and what each call promises.
+pub use sentence::describe;
 pub use sheet::Answer;
 use sheet::Edition;
 ghost use mathlib.Core.Path.{_≡_};

@@ -2,9 +2,10 @@
 use timing::Answer;
 ghost use mathlib.Core.Path.{_≡_};
 ghost use Rattle.sheet.specs.Layout.{firstEdition};
-ghost use Rattle.sheet.specs.Outcome.{Outcome, outcomeOf, numbers};
+ghost use Rattle.sheet.specs.Outcome.{Outcome, outcomeOf, numbers, fromNumbers};
 ghost use Rattle.sheet.specs.Refusal.{checked};
 ghost use Rattle.network.specs.Run.{RunLeaves};
+ghost use Rattle.sentence.specs.Describing.{Describes};
 
 // An answer's three numbers: number (0 for a finished call), place, count.
 fn numbers_of(a: Answer) -> [u32; 3]
@@ -14,6 +15,16 @@ fn numbers_of(a: Answer) -> [u32; 3]
         Answer::Ran(count) => [0, 0, count],
         Answer::Refused(number, place, count) => [number, place, count],
     }
+}
+
+// The answer that three numbers stand for.
+fn answer_of(number: u32, place: u32, count: u32) -> Answer
+    ensures { λ r. ⌜ outcomeOf r ≡ fromNumbers number place count ⌝ }
+{
+    if number == 0 {
+        return Answer::Ran(count);
+    }
+    Answer::Refused(number, place, count)
 }
 
 #[no_mangle]
@@ -30,4 +41,19 @@ pub extern "C" fn timing_run(sheet: &[u8], horizon: u32, listing: &mut [u8], ans
         × RunLeaves firstEdition (now (sheet .entry)) horizon (now (listing .entry)) o (now (listing .exit))) ⌝ }
 {
     *answer = numbers_of(timing::run(sheet, horizon, listing));
+}
+
+// Describes the answer that three numbers stand for.
+#[no_mangle]
+pub extern "C" fn timing_describe(
+    number: u32,
+    place: u32,
+    count: u32,
+    text: &mut [u8],
+    answer: &mut [u32; 3],
+)
+    ensures { λ _. ⌜ ((o : Outcome) × (now (answer .exit) ≡ numbers o)
+        × Describes (fromNumbers number place count) (now (text .entry)) o (now (text .exit))) ⌝ }
+{
+    *answer = numbers_of(timing::describe(answer_of(number, place, count), text));
 }

@@ -9,7 +9,7 @@ use std::process::ExitCode;
 
 use bench::outside::{self, Simulator};
 use bench::table::{self, Row};
-use bench::{agree, machine, workload};
+use bench::{agree, describe, machine, workload};
 use generate::limits::LAST_HORIZON;
 
 fn main() -> ExitCode {
@@ -26,6 +26,7 @@ fn main() -> ExitCode {
         println!("{row}");
         all_agree &= row.all_agree();
     }
+    println!("\n{}", describe::timed());
     for simulator in absent {
         println!(
             "\n{} is not installed, so it was not timed.",

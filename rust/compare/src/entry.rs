@@ -12,6 +12,15 @@ mod c {
             listing_len: usize,
             answer: *mut [u32; 3],
         );
+
+        pub fn timing_describe(
+            number: u32,
+            place: u32,
+            count: u32,
+            text: *mut u8,
+            text_len: usize,
+            answer: *mut [u32; 3],
+        );
     }
 }
 
@@ -39,6 +48,25 @@ pub fn run(sheet: &[u8], horizon: u32, listing: &mut [u8]) -> [u32; 3] {
             horizon,
             listing.as_mut_ptr(),
             listing.len(),
+            &mut answer,
+        );
+    }
+    answer
+}
+
+/// Writes the sentence of an answer, given by its three words, to the front of `text`. The answer is
+/// number (0 where the text took the sentence), place and count, the sentence's length.
+pub fn describe([number, place, count]: [u32; 3], text: &mut [u8]) -> [u32; 3] {
+    let mut answer = [UNWRITTEN; 3];
+    // SAFETY: the text's bytes and the three words are written, and both are lent for the whole
+    // call. An empty slice's pointer is not null.
+    unsafe {
+        c::timing_describe(
+            number,
+            place,
+            count,
+            text.as_mut_ptr(),
+            text.len(),
             &mut answer,
         );
     }

@@ -2,10 +2,12 @@
 
 mod entry;
 mod hex;
+mod lent;
 mod place;
 mod stream;
 
-pub use entry::{check, run};
+pub use entry::{check, describe, run};
 pub use hex::hex;
+pub use lent::Lent;
 pub use place::{program, repository};
 pub use stream::{count, seed};

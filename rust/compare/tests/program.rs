@@ -7,7 +7,7 @@ use compare::{hex, program, seed};
 use generate::limits::RECORD_BYTES;
 use generate::sheets::*;
 use generate::Generator;
-use plain::{worked_run, HIGH, INPUT, LOW};
+use plain::{sentence, worked_run, Answer, HIGH, INPUT, LOW};
 
 /// Starts a program with a stack of 1,024 KiB: it must need less.
 const WITH_SMALL_STACK: &str = r#"ulimit -s 1024 && exec "$0""#;
@@ -46,8 +46,13 @@ fn agreed(input: &[u8], whence: &str) -> String {
         String::from_utf8_lossy(&expected),
         hex(input)
     );
-    let word = text.split(' ').next();
+    let word = text.split([' ', ',', ':']).next();
     word.expect("a split text has a part").to_string()
+}
+
+/// The one line that is printed of a refusal.
+fn refused(triple: [u32; 3]) -> Vec<u8> {
+    (sentence(Answer::of_triple(triple)) + "\n").into_bytes()
 }
 
 /// The standard input for a run.
@@ -73,7 +78,7 @@ fn generated_runs() {
         let run = generator.run_input();
         let whence = format!("seed {seed}, run {place}");
         match agreed(&input(run.horizon, &run.sheet), &whence).as_str() {
-            "records" => ran += 1,
+            "finished" => ran += 1,
             "refused" => refused += 1,
             other => panic!("{whence}: {other}"),
         }
@@ -88,7 +93,7 @@ fn bytes_past_the_longest_sheet() {
     for length in [8_460, 8_461, 8_462, 20_000] {
         let mut input = worked_run::INPUT.to_vec();
         input.resize(length, 0);
-        assert_eq!(printed(&input), b"refused 17 31\n", "{length} bytes");
+        assert_eq!(printed(&input), refused([17, 31, 0]), "{length} bytes");
     }
 }
 
@@ -96,7 +101,7 @@ fn bytes_past_the_longest_sheet() {
 #[test]
 fn the_lent_room() {
     let ring = sheet(&[LOW], &[gate(INVERTER, [0, 0], 0, 1)], &[], &[0]).encode();
-    for (horizon, word) in [(10_000, "records"), (10_001, "refused")] {
+    for (horizon, word) in [(10_000, "finished"), (10_001, "refused")] {
         assert_eq!(agreed(&input(horizon, &ring), "the lent room"), word);
     }
 }
@@ -119,15 +124,15 @@ fn the_longest_text() {
     let mut listing = vec![0; 10_000 * RECORD_BYTES];
     let answer = plain::run(&sheet, horizon, &mut listing).triple();
     assert_eq!(answer, [0, 0, 10_000]);
-    let mut expected = String::from("records 10000\n");
+    let mut expected = String::from("finished, with a count of 10000\n");
     for (tick, node, value) in records(&listing) {
         expected += &format!("{tick} {node} {value}\n");
     }
-    assert_eq!(expected.len(), 14 + 8 + 9_999 * 13);
+    assert_eq!(expected.len(), 32 + 8 + 9_999 * 13);
     let text = printed(&input(horizon, &sheet));
     assert_eq!(text.len(), expected.len());
     assert!(text == expected.as_bytes(), "a line differs");
     // One tick more has one record more, which finds no room.
-    let refused = printed(&input(horizon + 1, &sheet));
-    assert_eq!(refused, b"refused 19 109999\n");
+    let one_more = printed(&input(horizon + 1, &sheet));
+    assert_eq!(one_more, refused([19, 109_999, 10_000]));
 }

@@ -8,7 +8,7 @@ use std::process::{Command, Stdio};
 
 use compare::program;
 use generate::sheets::*;
-use plain::{worked_run, LOW};
+use plain::{sentence, worked_run, Answer, LOW};
 
 const NOT_TAKEN: &str = "simulate: standard output did not take the whole text\n";
 const NOTHING_READ: &str = "simulate: nothing was read from standard input\n";
@@ -40,6 +40,12 @@ fn said(start: &str, input: &[u8], output: impl Into<Stdio>) -> Said {
     }
 }
 
+/// What is printed where the horizon is 0.
+fn no_horizon() -> Vec<u8> {
+    let refused = Answer::of_triple([1, 0, 0]);
+    (sentence(refused) + "\n").into_bytes()
+}
+
 const AS_IT_IS: &str = r#"exec "$0""#;
 
 /// An inverter onto its own input to horizon 10,000: a text that no pipe takes at once.
@@ -63,7 +69,7 @@ fn an_ordinary_run_says_nothing() {
 fn nothing_was_read() {
     let said = said(AS_IT_IS, &[], Stdio::piped());
     assert_eq!(said.error, NOTHING_READ);
-    assert_eq!(said.output, b"refused 1 0\n");
+    assert_eq!(said.output, no_horizon());
 }
 
 /// Nothing can be read from a closed standard input, either.
@@ -71,7 +77,7 @@ fn nothing_was_read() {
 fn standard_input_is_closed() {
     let said = said(r#"exec "$0" <&-"#, &[], Stdio::piped());
     assert_eq!(said.error, NOTHING_READ);
-    assert_eq!(said.output, b"refused 1 0\n");
+    assert_eq!(said.output, no_horizon());
 }
 
 #[test]

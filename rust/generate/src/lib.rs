@@ -6,6 +6,7 @@
 
 #![forbid(unsafe_code)]
 
+mod answer;
 pub mod by_hand;
 mod bytes;
 mod crowded;

@@ -19,6 +19,19 @@ impl Answer {
         }
     }
 
+    /// The answer that three words stand for: number 0 is a finished call, and its place is not
+    /// looked at.
+    pub fn of_triple([number, place, count]: [u32; 3]) -> Answer {
+        match number {
+            0 => Answer::Ran { count },
+            _ => Answer::Refused {
+                number,
+                place,
+                count,
+            },
+        }
+    }
+
     /// Number, place and count as three words; a finished call has number 0 and place 0.
     pub fn triple(self) -> [u32; 3] {
         match self {

@@ -3,6 +3,7 @@
 use crate::answer::Answer;
 use crate::level::symbol;
 use crate::listing::run;
+use crate::sentence::sentence;
 use crate::sheet::Event;
 
 /// The bytes that the program lends for the listing.
@@ -15,10 +16,11 @@ const READ_AT_MOST: usize = 8_457;
 pub fn program(input: &[u8]) -> Vec<u8> {
     let (horizon, sheet) = parts(input);
     let mut listing = vec![0; LENT];
-    let printed = match run(sheet, horizon, &mut listing) {
-        Answer::Ran { count } => records(&listing, count),
-        Answer::Refused { number, place, .. } => format!("refused {number} {place}\n"),
-    };
+    let answer = run(sheet, horizon, &mut listing);
+    let mut printed = sentence(answer) + "\n";
+    if let Answer::Ran { count } = answer {
+        printed += &records(&listing, count);
+    }
     printed.into_bytes()
 }
 
@@ -32,7 +34,7 @@ fn parts(input: &[u8]) -> (u32, &[u8]) {
 }
 
 fn records(listing: &[u8], count: u32) -> String {
-    let mut printed = format!("records {count}\n");
+    let mut printed = String::new();
     let (records, _) = listing.as_chunks();
     for &record in &records[..count as usize] {
         let Event { tick, node, value } = Event::from_bytes(record);

@@ -18,7 +18,8 @@ pub const HORIZON: u32 = 12;
 pub const SHEET: &[u8] = INPUT.split_at(4).1;
 
 /// What the program prints.
-pub const PRINTED: &str = "records 6\n0 0 0\n0 1 X\n3 1 1\n5 0 1\n8 1 0\n11 1 1\n";
+pub const PRINTED: &str =
+    "finished, with a count of 6\n0 0 0\n0 1 X\n3 1 1\n5 0 1\n8 1 0\n11 1 1\n";
 
 /// The records of its listing: tick, node and value.
 pub const RECORDS: [(u32, u8, u8); 6] = [

@@ -1,6 +1,6 @@
 -- `simulate::print_whole` meets its contract: the lent text takes all that is printed. Assumes nothing.
 use borrow.Author.Needs.{needs}
-use Rattle.text.proofs.Putting.{place-within}
+use Rattle.lent.proofs.Putting.{place-within}
 use Rattle.program.proofs.Whole.{all-printed}
 use Rattle.simulate.proofs.print_whole.Statement.{statement}
 use Rattle.simulate.proofs.print_whole.Tie as tie

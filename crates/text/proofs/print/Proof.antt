@@ -1,47 +1,36 @@
--- `text::print` meets its contract: at first nothing is printed. Assumes nothing.
+-- `text::print` meets its contract: the sentence, the line's end, and after a finished run the lines. Assumes nothing.
 use borrow.Author.Needs.{needs}
 use mathlib.Core.List.{[]}
-use Rattle.text.proofs.Putting.{none-printed}
+use Rattle.sheet.specs.Outcome.{outcomeOf}
+use Rattle.lent.proofs.Putting.{none-printed, prints-then}
+use Rattle.text.specs.Printing.{printedText}
 use Rattle.text.proofs.print.Statement.{statement}
 use Rattle.text.proofs.print.Tie as tie
 
-enum-known-answer : tie.Need-enum-known-answer
-enum-known-answer c = search needs
-
-put-records-requires : tie.Need-put-records-requires
-put-records-requires c κs = search needs
-
-enum-known-answer-2 : tie.Need-enum-known-answer-2
-enum-known-answer-2 c = search needs
-
-put-refusal-requires : tie.Need-put-refusal-requires
-put-refusal-requires c κs = search needs
-
-same-length : tie.Need-same-length
-same-length c = search needs
-
 returns : tie.Need-returns
+unfolding printedText
 returns c =
-    let at-start = c .before .before .before .before .before .before .before .before .before in
-    rw (c .before .before .before .before .before .answer .given .1) (c .before .before .put-records .ensures (at-start .args .text .now) [] (none-printed (at-start .args .text .now)))
-
-same-length-2 : tie.Need-same-length-2
-same-length-2 c = search needs
+    let end = c .before .before .before .before .before .before .before .before .before in
+    let ran = c .before .before .before .before .before .answer .given .1 in
+    rw ran (prints-then (rw ran at (end .before .before .before .before .put-sentence .ensures)) (prints-then (end .put .ensures) (c .before .before .put-lines .ensures)) _ [] (none-printed _))
 
 returns-2 : tie.Need-returns-2
+unfolding printedText
 returns-2 c =
-    let at-start = c .before .before .before .before .before .before .before .before .before in
-    rw (c .before .before .before .before .before .answer2 .given .1) (c .before .before .put-refusal .ensures (at-start .args .listing .now) _ (at-start .args .text .now) [] (none-printed (at-start .args .text .now)))
+    let end = c .before .before .before .before in
+    let refused = c .enum-told .given .1 in
+    rw refused (prints-then (rw refused at (end .before .before .before .before .put-sentence .ensures)) (end .put .ensures) _ [] (none-printed _))
 
 pub print-spec : {M : Type 1} → statement M
 print-spec =
     tie.close
     (tie.spec
-    enum-known-answer
-    put-records-requires
-    enum-known-answer-2
-    put-refusal-requires
-    same-length
+    (λ c κs. search needs)
+    (λ c κs. search needs)
+    (λ c. search needs)
+    (λ c κs. search needs)
+    (λ c. search needs)
+    (λ c. search needs)
     returns
-    same-length-2
+    (λ c. search needs)
     returns-2)

@@ -40,6 +40,9 @@ fn symbols(wanted: &str) -> Vec<String> {
 
 #[test]
 fn what_it_offers_and_asks_for() {
-    assert_eq!(symbols("T"), ["timing_check", "timing_run"]);
+    assert_eq!(
+        symbols("T"),
+        ["timing_check", "timing_describe", "timing_run"]
+    );
     assert_eq!(symbols("U"), ["memcpy", "memset"]);
 }

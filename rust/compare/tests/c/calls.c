@@ -1,9 +1,10 @@
 /*
- * One call over the sheet at standard input, for the tests: prints the answer's three words in a
- * line and, after a run, every byte of the listing's buffer in hexadecimal in a second one.
+ * One call, over the sheet at standard input if it takes one, for the tests: prints the answer's
+ * three words in a line and, where a buffer is lent, every byte of it in hexadecimal in a second one.
  *
  *     calls check
  *     calls run HORIZON BYTES
+ *     calls describe NUMBER PLACE COUNT BYTES
  */
 #include <inttypes.h>
 #include <stdio.h>
@@ -19,18 +20,20 @@
 static void (*const check_call)(const uint8_t *, size_t, uint32_t *) = timing_check;
 static void (*const run_call)(const uint8_t *, size_t, uint32_t, uint8_t *, size_t, uint32_t *) = timing_run;
 
+static void (*const describe_call)(uint32_t, uint32_t, uint32_t, uint8_t *, size_t, uint32_t *) = timing_describe;
+
 static uint8_t sheet[2 * TIMING_LONGEST_SHEET];
-static uint8_t listing[60000];
+static uint8_t lent[60000];
 
 static void print_answer(const uint32_t answer[3])
 {
     printf("%" PRIu32 " %" PRIu32 " %" PRIu32 "\n", answer[0], answer[1], answer[2]);
 }
 
-static void print_listing(size_t bytes)
+static void print_lent(size_t bytes)
 {
     for (size_t i = 0; i < bytes; i++)
-        printf("%02X", listing[i]);
+        printf("%02X", lent[i]);
     printf("\n");
 }
 
@@ -46,10 +49,25 @@ static void run(size_t length, uint32_t horizon, size_t bytes)
 {
     uint32_t answer[3] = {UINT32_MAX, UINT32_MAX, UINT32_MAX};
 
-    memset(listing, UNTOUCHED, sizeof listing);
-    run_call(sheet, length, horizon, listing, bytes, answer);
+    memset(lent, UNTOUCHED, sizeof lent);
+    run_call(sheet, length, horizon, lent, bytes, answer);
     print_answer(answer);
-    print_listing(bytes);
+    print_lent(bytes);
+}
+
+static void describe(const uint32_t words[3], size_t bytes)
+{
+    uint32_t answer[3] = {UINT32_MAX, UINT32_MAX, UINT32_MAX};
+
+    memset(lent, UNTOUCHED, sizeof lent);
+    describe_call(words[0], words[1], words[2], lent, bytes, answer);
+    print_answer(answer);
+    print_lent(bytes);
+}
+
+static uint32_t word(const char *digits)
+{
+    return (uint32_t)strtoul(digits, NULL, 10);
 }
 
 int main(int argc, char **argv)
@@ -63,11 +81,20 @@ int main(int argc, char **argv)
     if (argc == 4 && strcmp(argv[1], "run") == 0) {
         size_t bytes = strtoul(argv[3], NULL, 10);
 
-        if (bytes <= sizeof listing) {
-            run(length, (uint32_t)strtoul(argv[2], NULL, 10), bytes);
+        if (bytes <= sizeof lent) {
+            run(length, word(argv[2]), bytes);
             return EXIT_SUCCESS;
         }
     }
-    fprintf(stderr, "usage: calls check | calls run HORIZON BYTES\n");
+    if (argc == 6 && strcmp(argv[1], "describe") == 0) {
+        const uint32_t words[3] = {word(argv[2]), word(argv[3]), word(argv[4])};
+        size_t bytes = strtoul(argv[5], NULL, 10);
+
+        if (bytes <= sizeof lent) {
+            describe(words, bytes);
+            return EXIT_SUCCESS;
+        }
+    }
+    fprintf(stderr, "usage: calls check | calls run HORIZON BYTES | calls describe NUMBER PLACE COUNT BYTES\n");
     return EXIT_FAILURE;
 }

@@ -7,7 +7,7 @@ use compare::hex;
 use generate::shared::{four_buffers, toggled};
 use generate::sheets::constant;
 use generate::{by_hand, Generator, Size};
-use plain::{worked_run, HIGH};
+use plain::{sentence, worked_run, Answer, HIGH};
 
 use crate::compiled::Program;
 
@@ -38,6 +38,31 @@ fn ran(sheet: &[u8], horizon: u32, bytes: usize, whence: &str) -> [u32; 3] {
     let expected = format!("{}{}\n", words(answer), hex(&listing));
     assert_eq!(printed, expected, "{whence}: {}", hex(sheet));
     answer
+}
+
+/// Asserts that an answer is described from C as the plain simulator does it, and gives the answer
+/// to that.
+fn described(triple: [u32; 3], bytes: usize) -> [u32; 3] {
+    let mut text = vec![UNTOUCHED; bytes];
+    let answer = plain::describe(Answer::of_triple(triple), &mut text).triple();
+    let words = triple.map(|word| word.to_string());
+    let arguments = [&["describe".into()], &words[..], &[bytes.to_string()]].concat();
+    let printed = CALLS.printed(&arguments, &[]);
+    let expected = format!("{}{}\n", self::words(answer), hex(&text));
+    assert_eq!(printed, expected, "{triple:?} in {bytes} bytes");
+    answer
+}
+
+/// Every number from C, in a text of exactly its length and in one that is a byte short.
+#[test]
+fn answers_described() {
+    for number in 0..=40 {
+        let triple = [number, 4_294_967_295, 10];
+        let length = sentence(Answer::of_triple(triple)).len();
+        assert_eq!(described(triple, length), [0, 0, length as u32]);
+        assert_eq!(described(triple, length - 1), [21, length as u32, 0]);
+        assert_eq!(described(triple, 256), [0, 0, length as u32]);
+    }
 }
 
 #[test]

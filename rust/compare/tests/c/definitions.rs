@@ -41,11 +41,12 @@ fn cases(file: &str, word: &str) -> Vec<Named> {
     found
 }
 
-/// Every refusal's name and number: 2 to 18, and then those of a run.
+/// Every refusal's name and number: 2 to 18, then those of a run, then that of a description.
 pub fn refusals() -> Vec<Named> {
     let of_a_sheet = cases("format/specs/Condition.antt", "Condition e s ");
     let of_a_run = cases("network/specs/RunConditions.antt", "(refused ");
-    [of_a_sheet, of_a_run].concat()
+    let of_a_text = constants("sentence/specs/Describing.antt");
+    [of_a_sheet, of_a_run, of_a_text].concat()
 }
 
 /// The numbers that a file names: "name = number".
@@ -68,14 +69,23 @@ pub fn values() -> Vec<Named> {
     constants("level/specs/Level.antt")
 }
 
-/// The bound in the theorem on the longest sheet.
-pub fn longest_sheet() -> u32 {
-    let text = text("format/proofs/Theorems.antt");
-    let statement = text
-        .lines()
-        .find(|line| line.starts_with("pub longest-sheet :"));
+/// The bound in a theorem: "pub name : .. ≤ number".
+fn bound(file: &str, name: &str) -> u32 {
+    let text = text(file);
+    let start = format!("pub {name} :");
+    let statement = text.lines().find(|line| line.starts_with(&start));
     let bound = statement.and_then(|line| line.rsplit(" ≤ ").next());
     bound
         .and_then(leading_number)
         .expect("the theorem has a bound")
+}
+
+/// The bound in the theorem on the longest sheet.
+pub fn longest_sheet() -> u32 {
+    bound("format/proofs/Theorems.antt", "longest-sheet")
+}
+
+/// The bound in the theorem on the longest sentence.
+pub fn longest_sentence() -> u32 {
+    bound("sentence/proofs/Longest.antt", "longest-sentence")
 }

@@ -74,7 +74,7 @@ pub fn refusals_of_header() -> Vec<Named> {
 fn refusals() {
     let in_header = refusals_of_header();
     let numbers: Vec<u32> = in_header.iter().map(|&(_, number)| number).collect();
-    assert_eq!(numbers, Vec::from_iter(1..=20));
+    assert_eq!(numbers, Vec::from_iter(1..=21));
     same(in_header, definitions::refusals());
 }
 
@@ -88,12 +88,14 @@ fn limits() {
     let is_stack = |name: &str| name.ends_with("_STACK");
     let (stacks, mut limits): (Vec<_>, Vec<_>) =
         macros().into_iter().partition(|(name, _)| is_stack(name));
-    assert_eq!(stacks.len(), 2);
-    let longest = (
-        "TIMING_LONGEST_SHEET".to_string(),
-        definitions::longest_sheet(),
-    );
-    assert!(limits.contains(&longest), "no {longest:?}");
-    limits.retain(|limit| *limit != longest);
+    assert_eq!(stacks.len(), 3);
+    for (name, bound) in [
+        ("TIMING_LONGEST_SHEET", definitions::longest_sheet()),
+        ("TIMING_LONGEST_SENTENCE", definitions::longest_sentence()),
+    ] {
+        let longest = (name.to_string(), bound);
+        assert!(limits.contains(&longest), "no {longest:?}");
+        limits.retain(|limit| *limit != longest);
+    }
     same(limits, definitions::limits());
 }

@@ -1,11 +1,11 @@
-//! The README has the header's names and calls, and document 01's input.
+//! The README has the header's names and calls, the sentences' phrases, and document 01's input.
 
 use std::fs;
 
 use compare::{hex, repository};
 use plain::worked_run;
 
-use crate::definitions::Named;
+use crate::definitions::{self, Named};
 use crate::header::refusals_of_header;
 
 fn text(file: &str) -> String {
@@ -16,20 +16,91 @@ fn page() -> String {
     text("README.md")
 }
 
-/// The rows "| number | `NAME` | ..".
-fn rows() -> Vec<Named> {
+/// A row "| number | `NAME` | phrase | ..".
+struct Row {
+    named: Named,
+    phrase: String,
+}
+
+fn rows() -> Vec<Row> {
     let row = |line: &str| {
         let mut columns = line.strip_prefix("| ")?.split(" | ");
         let number = columns.next()?.parse().ok()?;
         let name = columns.next()?.trim_matches('`');
-        Some((name.to_string(), number))
+        Some(Row {
+            named: (name.to_string(), number),
+            phrase: columns.next()?.to_string(),
+        })
     };
     page().lines().filter_map(row).collect()
 }
 
 #[test]
 fn the_table_of_refusals() {
-    assert_eq!(rows(), refusals_of_header());
+    let named: Vec<Named> = rows().into_iter().map(|row| row.named).collect();
+    assert_eq!(named, refusals_of_header());
+}
+
+#[test]
+fn the_phrases() {
+    for Row { named, phrase } in rows() {
+        assert_eq!(plain::phrase(named.1), Some(phrase.as_str()), "{named:?}");
+    }
+}
+
+/// What the README shows of an input that was cut short.
+#[test]
+fn the_refusal_shown() {
+    let page = page();
+    let (_, rest) = page
+        .split_once("    $ head -c 30 input | target/bin/simulate\n    ")
+        .expect("there is a line");
+    let (shown, _) = rest.split_once('\n').expect("it ends");
+    let printed = plain::program(&worked_run::INPUT[..30]);
+    assert_eq!(format!("{shown}\n").as_bytes(), printed);
+}
+
+/// A number with a comma before its last three digits, and so on.
+fn grouped(number: u32) -> String {
+    match number {
+        0..=999 => number.to_string(),
+        _ => format!("{},{:03}", grouped(number / 1_000), number % 1_000),
+    }
+}
+
+/// The limits that phrases name are the definitions'.
+#[test]
+fn the_limits_in_phrases() {
+    let limits = definitions::limits();
+    let named_in = [
+        (1, &["greatestHorizon"][..]),
+        (
+            3,
+            &[
+                "leastNodes",
+                "mostNodes",
+                "mostModules",
+                "mostEvents",
+                "mostWatched",
+            ],
+        ),
+        (4, &["lastValue", "inputByte"]),
+        (8, &["longestDelay"]),
+        (11, &["lastTick"]),
+        (13, &["lastValue"]),
+        (20, &["pendingLimit"]),
+    ];
+    for (number, names) in named_in {
+        let phrase = plain::phrase(number).expect("it is listed");
+        let words: Vec<&str> = phrase.split([' ', ':']).collect();
+        for name in names {
+            let limit = limits.iter().find(|(defined, _)| defined == name);
+            let (_, limit) = limit.unwrap_or_else(|| panic!("no {name}"));
+            let said = grouped(*limit);
+            let says = |word: &&str| word.strip_suffix(',').unwrap_or(word) == said;
+            assert!(words.iter().any(says), "{name} {said}: {phrase}");
+        }
+    }
 }
 
 #[test]
@@ -51,6 +122,6 @@ fn calls(text: &str) -> Vec<String> {
 #[test]
 fn the_calls_in_the_readme() {
     let declared = calls(&text("include/timing.h"));
-    assert_eq!(declared.len(), 2);
+    assert_eq!(declared.len(), 3);
     assert_eq!(calls(&page()), declared);
 }

@@ -1,10 +1,11 @@
 /*
- * The bytes of stack that a call uses over the sheet at standard input, below the frame that makes
- * it: the call is made in a thread whose stack is filled with one byte beforehand, and the lowest
- * byte that has changed is looked for afterwards.
+ * The bytes of stack that a call uses, over the sheet at standard input if it takes one, below the
+ * frame that makes it: the call is made in a thread whose stack is filled with one byte beforehand,
+ * and the lowest byte that has changed is looked for afterwards.
  *
  *     stack check
  *     stack run HORIZON
+ *     stack describe NUMBER PLACE COUNT
  */
 #define _POSIX_C_SOURCE 200809L
 
@@ -21,8 +22,10 @@
 
 static uint8_t sheet[2 * TIMING_LONGEST_SHEET];
 static size_t length;
-static uint32_t horizon; /* 0: the sheet is checked and not run */
+static const char *call;
+static uint32_t words[3]; /* the call's numbers */
 static uint8_t listing[60000];
+static uint8_t text[TIMING_LONGEST_SENTENCE];
 static uint32_t answer[3];
 static ptrdiff_t used;
 
@@ -38,10 +41,12 @@ static void *call_on(void *stack)
 {
     const uint8_t *frame = __builtin_frame_address(0);
 
-    if (horizon == 0)
+    if (strcmp(call, "check") == 0)
         timing_check(sheet, length, answer);
+    else if (strcmp(call, "run") == 0)
+        timing_run(sheet, length, words[0], listing, sizeof listing, answer);
     else
-        timing_run(sheet, length, horizon, listing, sizeof listing, answer);
+        timing_describe(words[0], words[1], words[2], text, sizeof text, answer);
     used = frame - lowest_touched(stack);
     return NULL;
 }
@@ -63,9 +68,12 @@ int main(int argc, char **argv)
 {
     void *stack;
 
+    if (argc < 2 || argc > 5)
+        return EXIT_FAILURE;
+    call = argv[1];
+    for (int i = 2; i < argc; i++)
+        words[i - 2] = (uint32_t)strtoul(argv[i], NULL, 10);
     length = fread(sheet, 1, sizeof sheet, stdin);
-    if (argc == 3)
-        horizon = (uint32_t)strtoul(argv[2], NULL, 10);
     if (posix_memalign(&stack, PAGE, STACK) != 0)
         return EXIT_FAILURE;
     memset(stack, UNTOUCHED, STACK);

@@ -14,15 +14,32 @@ fn sheets() -> Vec<Vec<u8>> {
     others.into_iter().chain(full).collect()
 }
 
-/// The most bytes of stack that the call uses over the sheets.
-fn most_used(arguments: &[&str]) -> u32 {
-    let program = Program::new("stack");
+/// The bytes of stack that the call uses over a sheet.
+fn used(program: &Program, arguments: &[&str], sheet: &[u8]) -> u32 {
     let arguments: Vec<String> = arguments.iter().map(|&word| word.into()).collect();
-    let used = sheets().into_iter().map(|sheet| {
-        let printed = program.printed(&arguments, &sheet);
-        printed.trim().parse::<u32>().expect("it prints a number")
-    });
+    let printed = program.printed(&arguments, sheet);
+    printed.trim().parse().expect("it prints a number")
+}
+
+/// The most that it uses over the sheets.
+fn most_used(program: &Program, arguments: &[&str]) -> u32 {
+    let used = sheets()
+        .into_iter()
+        .map(|sheet| used(program, arguments, &sheet));
     used.max().expect("there are sheets")
+}
+
+/// The most that a description uses: of every number, with the longest place and count.
+fn most_described(program: &Program) -> u32 {
+    let used = (0..=40).map(|number| {
+        let number = number.to_string();
+        used(
+            program,
+            &["describe", &number, "4294967295", "4294967295"],
+            &[],
+        )
+    });
+    used.max().expect("there are numbers")
 }
 
 /// Asserts that the header says enough, and not more than twice of what is used.
@@ -33,7 +50,9 @@ fn stated(name: &str, used: u32) {
 }
 
 #[test]
-fn the_stack_of_both_calls() {
-    stated("TIMING_CHECK_STACK", most_used(&["check"]));
-    stated("TIMING_RUN_STACK", most_used(&["run", "2000"]));
+fn the_stack_of_every_call() {
+    let program = Program::new("stack");
+    stated("TIMING_CHECK_STACK", most_used(&program, &["check"]));
+    stated("TIMING_RUN_STACK", most_used(&program, &["run", "2000"]));
+    stated("TIMING_DESCRIBE_STACK", most_described(&program));
 }

@@ -29,6 +29,16 @@ static void print_record(const uint8_t *record)
     printf("%" PRIu32 " %d %c\n", tick_of(record), record[4], "01XZ"[record[5]]);
 }
 
+/* The answer's sentence, in a line. */
+static void print_sentence(FILE *file, const uint32_t answer[3])
+{
+    uint8_t text[TIMING_LONGEST_SENTENCE];
+    uint32_t described[3];
+
+    timing_describe(answer[0], answer[1], answer[2], text, sizeof text, described);
+    fprintf(file, "%.*s\n", (int)described[2], (const char *)text);
+}
+
 int main(void)
 {
     uint8_t listing[100 * TIMING_RECORD_SIZE];
@@ -36,10 +46,10 @@ int main(void)
 
     timing_run(sheet, sizeof sheet, 12, listing, sizeof listing, answer);
     if (answer[0] != TIMING_FINISHED) {
-        fprintf(stderr, "refused %" PRIu32 " at %" PRIu32 "\n", answer[0], answer[1]);
+        print_sentence(stderr, answer);
         return EXIT_FAILURE;
     }
-    printf("records %" PRIu32 "\n", answer[2]);
+    print_sentence(stdout, answer);
     for (uint32_t i = 0; i < answer[2]; i++)
         print_record(listing + i * TIMING_RECORD_SIZE);
     return EXIT_SUCCESS;

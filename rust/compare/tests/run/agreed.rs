@@ -1,42 +1,10 @@
 //! A run by the proved library and one by the plain simulator, over buffers that are alike.
 
-use compare::hex;
+use compare::{hex, Lent};
 use generate::limits::RECORD_BYTES;
 use generate::room_for_all;
 use generate::sheets::{records, Record};
 use plain::Sheet;
-
-/// Bytes before and after the lent ones, to be left alone as well.
-const GUARD: usize = 64;
-
-/// A lent buffer. No byte of it is like its neighbours, so that one written anywhere shows.
-struct Lent {
-    bytes: Vec<u8>,
-    length: usize,
-}
-
-impl Lent {
-    fn new(length: usize) -> Lent {
-        let pattern = (0..).map(|place: u32| (place.wrapping_mul(167) >> 3) as u8 ^ 0xA5);
-        Lent {
-            bytes: pattern.take(length + 2 * GUARD).collect(),
-            length,
-        }
-    }
-
-    fn lent(&mut self) -> &mut [u8] {
-        &mut self.bytes[GUARD..GUARD + self.length]
-    }
-
-    /// The records that were written, if everything else is as it was.
-    fn written(&self, count: u32) -> Option<&[u8]> {
-        let end = GUARD + RECORD_BYTES * count as usize;
-        let untouched = Lent::new(self.length);
-        let before = self.bytes[..GUARD] == untouched.bytes[..GUARD];
-        let after = self.bytes[end..] == untouched.bytes[end..];
-        (before && after).then(|| &self.bytes[GUARD..end])
-    }
-}
 
 /// A run's answer and the records that it wrote.
 #[derive(Debug, Clone, PartialEq, Eq)]
@@ -62,11 +30,7 @@ pub fn plain(sheet: &[u8], horizon: u32, length: usize, whence: &str) -> Outcome
 
 fn outcome(answer: [u32; 3], lent: &Lent, whence: &str) -> Outcome {
     let [.., count] = answer;
-    assert!(
-        RECORD_BYTES * count as usize <= lent.length,
-        "{whence}: {answer:?}"
-    );
-    let listing = lent.written(count);
+    let listing = lent.written(RECORD_BYTES * count as usize);
     let listing = listing.unwrap_or_else(|| panic!("{whence}: {answer:?} and a stray byte"));
     Outcome {
         answer,

@@ -1,7 +1,7 @@
 //! What the program prints.
 
 use crate::support::*;
-use plain::{program, worked_run, INPUT, LOW};
+use plain::{program, sentence, worked_run, Answer, INPUT, LOW};
 
 fn printed(input: &[u8]) -> String {
     String::from_utf8(program(input)).unwrap()
@@ -11,45 +11,58 @@ fn printed_for(horizon: u32, sheet: &[u8]) -> String {
     printed(&[&horizon.to_le_bytes(), sheet].concat())
 }
 
-#[test]
-fn missing_bytes_of_the_horizon_are_0() {
-    assert_eq!(printed(&[]), "refused 1 0\n");
-    assert_eq!(printed(&[0, 0, 0]), "refused 1 0\n");
-    assert_eq!(printed(&[12]), "refused 2 0\n");
-    assert_eq!(printed(&[0, 1]), "refused 2 0\n");
-    // 0x110000 is above 1,000,000.
-    assert_eq!(printed(&[0, 0, 0x11]), "refused 1 0\n");
+/// The one line that is printed of a refusal.
+fn refused(number: u32, place: u32, count: u32) -> String {
+    sentence(Answer::Refused {
+        number,
+        place,
+        count,
+    }) + "\n"
 }
 
 #[test]
-fn a_refusal_prints_its_number_and_place() {
+fn missing_bytes_of_the_horizon_are_0() {
+    assert_eq!(printed(&[]), refused(1, 0, 0));
+    assert_eq!(printed(&[0, 0, 0]), refused(1, 0, 0));
+    assert_eq!(printed(&[12]), refused(2, 0, 0));
+    assert_eq!(printed(&[0, 1]), refused(2, 0, 0));
+    // 0x110000 is above 1,000,000.
+    assert_eq!(printed(&[0, 0, 0x11]), refused(1, 0, 0));
+}
+
+#[test]
+fn a_refusal_prints_its_sentence_alone() {
     let sheet = &worked_run::SHEET[..12];
-    assert_eq!(printed_for(12, sheet), "refused 2 6\n");
-    assert_eq!(printed_for(0, worked_run::SHEET), "refused 1 0\n");
+    assert_eq!(
+        printed_for(12, sheet),
+        "refused: the sheet's bytes end inside a count or a record, at the sheet's byte 6; \
+         records written: 0\n"
+    );
+    assert_eq!(printed_for(0, worked_run::SHEET), refused(1, 0, 0));
 }
 
 #[test]
 fn every_value_has_its_symbol() {
     let drive = [(0, 0, 0), (10, 0, 1), (200, 0, 2), (3_000, 0, 3)];
     let sheet = sheet(&[INPUT], &[], &drive, &[0]).encode();
-    let expected = "records 4\n0 0 0\n10 0 1\n200 0 X\n3000 0 Z\n";
+    let expected = "finished, with a count of 4\n0 0 0\n10 0 1\n200 0 X\n3000 0 Z\n";
     assert_eq!(printed_for(1_000_000, &sheet), expected);
 }
 
 #[test]
 fn no_records() {
     let sheet = sheet(&[INPUT], &[], &[(0, 0, 1)], &[]).encode();
-    assert_eq!(printed_for(5, &sheet), "records 0\n");
+    assert_eq!(printed_for(5, &sheet), "finished, with a count of 0\n");
 }
 
 #[test]
 fn ten_thousand_records_are_lent_room() {
     let ring = sheet(&[LOW], &[gate(INVERTER, [0, 0], 0, 1)], &[], &[0]).encode();
     let full = printed_for(10_000, &ring);
-    assert!(full.starts_with("records 10000\n0 0 0\n1 0 1\n"));
+    assert!(full.starts_with("finished, with a count of 10000\n0 0 0\n1 0 1\n"));
     assert!(full.ends_with("\n9999 0 1\n"));
     // Records that were written before a refusal are not printed.
-    assert_eq!(printed_for(10_001, &ring), "refused 19 10000\n");
+    assert_eq!(printed_for(10_001, &ring), refused(19, 10_000, 10_000));
 }
 
 /// The longest sheet that is accepted: every section is full but for the one module that an input
@@ -67,14 +80,14 @@ fn longest() -> Vec<u8> {
 fn the_longest_sheet_is_read_whole() {
     let mut sheet = longest();
     assert_eq!(sheet.len(), 8_449);
-    assert!(printed_for(1, &sheet).starts_with("records 256\n0 0 0\n0 1 0\n"));
+    assert!(printed_for(1, &sheet).starts_with("finished, with a count of 256\n0 0 0\n0 1 0\n"));
     sheet.push(0);
-    assert_eq!(printed_for(1, &sheet), "refused 17 8449\n");
+    assert_eq!(printed_for(1, &sheet), refused(17, 8_449, 0));
 }
 
 #[test]
 fn bytes_past_the_longest_sheet_change_nothing() {
     let mut input = worked_run::INPUT.to_vec();
     input.resize(20_000, 0);
-    assert_eq!(printed(&input), "refused 17 31\n");
+    assert_eq!(printed(&input), refused(17, 31, 0));
 }

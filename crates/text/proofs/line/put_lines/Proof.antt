@@ -6,9 +6,9 @@ use native.Mathlib.Numerals.{add-one}
 use native.Mathlib.Omega.{arith}
 use lib.ListN.{length}
 use Rattle.sheet.specs.Enumerate.{each}
-use Rattle.text.specs.Lent.{Prints}
+use Rattle.lent.specs.Lent.{Prints}
 use Rattle.text.specs.Printing.{recordLines}
-use Rattle.text.proofs.Putting.{prints-none, prints-then}
+use Rattle.lent.proofs.Putting.{prints-none, prints-then}
 use Rattle.text.proofs.line.put_lines.Statement.{statement}
 use Rattle.text.proofs.line.put_lines.Tie as tie
 

@@ -1,9 +1,9 @@
 -- `text::line::put_record` meets its contract: tick, node, value and the line's end, one after another. Assumes nothing.
 use borrow.Author.Needs.{needs}
 use mathlib.Core.Path.{subst}
-use Rattle.text.specs.Lent.{Prints}
+use Rattle.lent.specs.Lent.{Prints}
 use Rattle.text.specs.Printing.{recordLine}
-use Rattle.text.proofs.Putting.{prints-then}
+use Rattle.lent.proofs.Putting.{prints-then}
 use Rattle.text.proofs.line.put_record.Statement.{statement}
 use Rattle.text.proofs.line.put_record.Tie as tie
 

@@ -1,0 +1,5 @@
+-- The laws of this crate that belong to no one function.
+pub mod Putting
+pub mod Digits
+pub mod ReadBack
+pub mod Examples

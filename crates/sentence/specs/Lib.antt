@@ -1,0 +1,5 @@
+-- An answer as a sentence.
+pub mod Phrases
+pub mod Sentence
+pub mod Describing
+pub mod Examples
