@@ -141,7 +141,7 @@ void timing_run(const uint8_t *sheet, size_t length, uint32_t horizon, uint8_t *
  * sentence has no line's end and no byte 0 at its end.
  *
  * Finished: the sentence stands first in the text, the count is its length, and the bytes past it are
- * as they were. TIMING_TEXT_SHORT: the text is as it was.
+ * as they were. TIMING_TEXT_SHORT: the text is as it was, and the count is 0.
  */
 void timing_describe(uint32_t number, uint32_t place, uint32_t count, uint8_t *text, size_t bytes,
                      uint32_t answer[3]);

@@ -1,7 +1,7 @@
 -- No phrase begins another: a text shows which phrase it begins with. One test that antt computes over the whole table. Assumes nothing.
 use mathlib.Core.Bool.{Bool, true, false}
 use mathlib.Core.List.{List, [], _∷_, _++_, head-eq-of-cons-eq, tail-eq-of-cons-eq}
-use mathlib.Core.Path.{_≡_, refl, sym}
+use mathlib.Core.Path.{_≡_, refl, sym, ap}
 use Prim.Native.Nat.{ℕ, suc, _<_, _≤_}
 use native.Mathlib.Omega.{arith}
 use borrow.Author.Tests.{eqb-false, ltb-true, ltb-false}
@@ -38,9 +38,14 @@ all-part = tt
 part-below : (i j : ℕ) → j < i → i ≤ length phrases → T (part (opening i) (opening j))
 part-below i j less h = below i (λ j. part (opening i) (opening j)) (below (suc (length phrases)) (λ i. allBelow i (λ j. part (opening i) (opening j))) all-part i (omega arith)) j less
 
+-- so whatever follows them, two of them are told apart
 pub openings-apart : (i j : ℕ) → i ≤ length phrases → j ≤ length phrases → (i ≡ j → ⊥) → (r s : List ℕ) → opening i ++ r ≡ opening j ++ s → ⊥
 openings-apart i j hi hj differ r s e = here (ltb j i) refl
   where
     here : (b : Bool) → ltb j i ≡ b → ⊥
     here true b = never-meet (opening i) (opening j) r s (part-below i j (ltb-true j i b) hi) e
     here false b = never-meet (opening j) (opening i) s r (part-below j i (omega (arith, ltb-false j i b, differ)) hj) (sym e)
+
+-- and they are pairwise distinct
+pub openings-distinct : (i j : ℕ) → i ≤ length phrases → j ≤ length phrases → (i ≡ j → ⊥) → opening i ≡ opening j → ⊥
+openings-distinct i j hi hj differ e = openings-apart i j hi hj differ [] [] (ap (λ l. l ++ []) e)

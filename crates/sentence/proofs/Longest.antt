@@ -1,4 +1,4 @@
--- How long a sentence is, and that it is one line. Assumes nothing.
+-- How long a sentence is at most, by one test that antt computes over the table. Assumes nothing.
 use mathlib.Core.Bool.{Bool, true, false}
 use mathlib.Core.Path.{_≡_, refl}
 use Prim.Native.Nat.{ℕ, suc, _+_, _≤_}

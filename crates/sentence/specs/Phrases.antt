@@ -6,7 +6,7 @@ use Prim.Native.String.{String}
 use lib.Dec.{leb, ltb}
 use lib.ListN.{length, getD}
 use Rattle.sentence.specs.declared.reason.Sort.{Sort}
-use Rattle.sentence.specs.declared.reason.Sort.the-variants.{Byte, Node, Tick, Needed, Bare}
+use Rattle.sentence.specs.declared.reason.Sort.the-variants.{Byte, Node, Tick, Length, Bare}
 
 -- how a finished call's sentence begins, before its count, and a refusal's; and what stands before a refusal's count of records
 abbrev pub hasFinished : String
@@ -18,15 +18,16 @@ isRefused = "refused: "
 abbrev pub recordsWritten : String
 recordsWritten = "; records written: "
 
--- What a place counts, as its row names it, and how that stands before the place: a byte of the sheet, a node, a tick,
--- the length that is needed; a bare 0 counts nothing.
+-- The sort of a place (document 02's term) is what it counts, as its row names it: a byte of the sheet, a node, a tick, the length
+-- that is needed; a bare 0 counts nothing. How the sort stands before the place:
 abbrev pub before : Sort → String
 before Byte = ", at the sheet's byte "
 before Node = ", at node "
 before Tick = ", at tick "
-before Needed = ", length needed "
+before Length = ", length needed "
 before Bare = ", place "
 
+-- what is wrong, and the sort of the place
 pub record Phrase : Type 0 where
   pub wrong : String
   pub sort : Sort
@@ -58,7 +59,7 @@ phrases =
     ∷ ("one or more modules of delay 0 form a closed chain" by Node)
     ∷ ("the listing has no room for all records of a tick" by Tick)
     ∷ ("more than 4,096 changes are pending after a tick" by Tick)
-    ∷ ("the text buffer is shorter than the sentence" by Needed)
+    ∷ ("the text buffer is shorter than the sentence" by Length)
     ∷ []
 
 -- how a number that no row has is said, before the number itself

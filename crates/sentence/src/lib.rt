@@ -1,9 +1,8 @@
 // An answer as a sentence, for whoever has no table of the refusals at hand.
 mod reason;
 
-pub use lent::put;
 use lent::put_all;
-pub use lent::put_decimal;
+use lent::put_decimal;
 use reason::put_reason;
 use sheet::Answer;
 ghost use mathlib.Core.Path.{_≡_};

@@ -8,12 +8,12 @@ ghost use Rattle.sentence.specs.Phrases.{before};
 ghost use Rattle.sentence.specs.Sentence.{reason, unlistedReason};
 ghost use Rattle.lent.specs.Lent.{Prints};
 
-// What a refusal's place counts.
+// The sort of a place: what it counts.
 pub enum Sort {
     Byte,
     Node,
     Tick,
-    Needed,
+    Length,
     Bare,
 }
 
@@ -25,7 +25,7 @@ fn put_sort(text: &mut [u8], at: usize, sort: Sort) -> usize
         Sort::Byte => put_all(text, at, b", at the sheet's byte "),
         Sort::Node => put_all(text, at, b", at node "),
         Sort::Tick => put_all(text, at, b", at tick "),
-        Sort::Needed => put_all(text, at, b", length needed "),
+        Sort::Length => put_all(text, at, b", length needed "),
         Sort::Bare => put_all(text, at, b", place "),
     }
 }
@@ -88,7 +88,7 @@ fn put_last_reason(text: &mut [u8], at: usize, number: u32) -> usize
             text,
             at,
             b"the text buffer is shorter than the sentence",
-            Sort::Needed,
+            Sort::Length,
         ),
         _ => put_unlisted(text, at, number),
     }

@@ -2,9 +2,6 @@
 use borrow.Author.Needs.{needs}
 use borrow.Author.Tests.{lt-ltb, le-ltb}
 use mathlib.Core.List.{[]}
-use native.Mathlib.Omega.{arith}
-use Rattle.sheet.specs.Outcome.{outcomeOf}
-use Rattle.sentence.specs.Sentence.{sentence}
 use Rattle.sentence.specs.Describing.{described, describedText}
 use Rattle.lent.proofs.Putting.{none-printed, whole}
 use Rattle.sentence.proofs.describe.Statement.{statement}
@@ -13,7 +10,6 @@ use Rattle.sentence.proofs.describe.Tie as tie
 returns : tie.Need-returns
 unfolding described describedText
 returns c =
-    let a = c .before .before .before .args in
     let short = rw (c .before .sentence-length .ensures) at (c .if1 .taken) in
     record {
       answered = rw (lt-ltb _ _ short, c .before .sentence-length .ensures);

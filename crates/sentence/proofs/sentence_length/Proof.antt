@@ -1,11 +1,8 @@
 -- `sentence::sentence_length` meets its contract: the array takes every sentence whole. Assumes nothing.
 use borrow.Author.Needs.{needs}
 use mathlib.Core.List.{[]}
-use mathlib.Core.Path.{_≡_}
 use native.Mathlib.Omega.{arith}
-use lib.ListN.{length, length-replicate}
 use Rattle.sheet.specs.Outcome.{outcomeOf}
-use Rattle.sentence.specs.Sentence.{sentence}
 use Rattle.lent.proofs.Putting.{none-printed, whole}
 use Rattle.sentence.proofs.Longest.{longest-sentence}
 use Rattle.sentence.proofs.sentence_length.Statement.{statement}

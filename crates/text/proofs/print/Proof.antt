@@ -1,7 +1,6 @@
 -- `text::print` meets its contract: the sentence, the line's end, and after a finished run the lines. Assumes nothing.
 use borrow.Author.Needs.{needs}
 use mathlib.Core.List.{[]}
-use Rattle.sheet.specs.Outcome.{outcomeOf}
 use Rattle.lent.proofs.Putting.{none-printed, prints-then}
 use Rattle.text.specs.Printing.{printedText}
 use Rattle.text.proofs.print.Statement.{statement}
