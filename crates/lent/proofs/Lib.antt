@@ -2,4 +2,5 @@
 pub mod Putting
 pub mod Digits
 pub mod ReadBack
+pub mod Shown
 pub mod Examples

@@ -1,6 +1,4 @@
 -- The laws of this crate that belong to no one function.
-pub mod Listed
-pub mod Apart
 pub mod Longest
 pub mod OneLine
 pub mod Different

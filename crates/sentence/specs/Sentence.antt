@@ -2,23 +2,21 @@
 -- then the count of records.
 use mathlib.Core.List.{List, _++_}
 use Prim.Native.Nat.{ℕ, _^_, _<_}
-use Rattle.level.specs.Choice.{if_then_else_}
+use Prim.Native.String.{String}
 use Rattle.sheet.specs.Outcome.{Outcome, finished, refused}
-use Rattle.sentence.specs.declared.reason.Sort.the-variants.{Bare}
-use Rattle.lent.specs.Letters.{letters}
 use Rattle.lent.specs.Decimal.{decimal}
-use Rattle.sentence.specs.Phrases.{hasFinished, isRefused, recordsWritten, Phrase, before, unlisted, isListed, phraseOf}
+use Rattle.lent.specs.Letters.{letters}
+use Rattle.reason.specs.Reason.{reason}
 
--- a phrase, and its sort before the place
-abbrev pub said : Phrase → List ℕ
-said p = letters (p .wrong) ++ letters (before (p .sort))
+-- how a finished call's sentence begins, before its count, and a refusal's; and what stands before a refusal's count of records
+abbrev pub hasFinished : String
+hasFinished = "finished, with a count of "
 
--- a number that no table has is printed as itself after a phrase for unlisted numbers, its place without a sort
-abbrev pub unlistedReason : ℕ → List ℕ
-unlistedReason number = letters unlisted ++ decimal number ++ letters (before Bare)
+abbrev pub isRefused : String
+isRefused = "refused: "
 
-unfoldable pub reason : ℕ → List ℕ
-reason number = if isListed number then said (phraseOf number) else unlistedReason number
+abbrev pub recordsWritten : String
+recordsWritten = "; records written: "
 
 -- a finished call has a phrase of its own and its count, whatever it has counted; a refusal's count is of records
 unfoldable pub sentence : Outcome → List ℕ

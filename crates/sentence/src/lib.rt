@@ -1,6 +1,4 @@
 // An answer as a sentence, for whoever has no table of the refusals at hand.
-mod reason;
-
 use lent::put_all;
 use lent::put_decimal;
 use reason::put_reason;

@@ -4,7 +4,8 @@ use Rattle.sheet.specs.Enumerate.{each}
 use Rattle.sheet.specs.Outcome.{finished, refused}
 use Rattle.lent.specs.Decimal.{digits}
 use Rattle.lent.specs.Letters.{letters}
-use Rattle.sentence.specs.Sentence.{reason, sentence}
+use Rattle.reason.specs.Reason.{reason}
+use Rattle.sentence.specs.Sentence.{sentence}
 use Rattle.text.specs.Printing.{printedText}
 use Rattle.text.specs.Examples.{workedListing, workedText, refusalText}
 

@@ -10,7 +10,7 @@ use lib.ListN.{length}
 use Rattle.level.specs.Choice.{if_then_else_}
 use Rattle.level.proofs.Computed.{allBelow, below}
 use Rattle.lent.specs.Letters.{letters}
-use Rattle.sentence.specs.Phrases.{phrases, unlisted, isListed, phraseOf}
+use Rattle.reason.specs.Phrases.{phrases, unlisted, isListed, phraseOf}
 
 -- two texts part: at some place both have a letter, and not the same
 abbrev part : List ℕ → List ℕ → Bool

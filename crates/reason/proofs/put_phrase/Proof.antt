@@ -1,8 +1,8 @@
--- `sentence::reason::put_phrase` meets its contract: what is wrong, and then the sort. Assumes nothing.
+-- `reason::put_phrase` meets its contract: what is wrong, and then the sort. Assumes nothing.
 use borrow.Author.Needs.{needs}
 use Rattle.lent.proofs.Putting.{prints-then}
-use Rattle.sentence.proofs.reason.put_phrase.Statement.{statement}
-use Rattle.sentence.proofs.reason.put_phrase.Tie as tie
+use Rattle.reason.proofs.put_phrase.Statement.{statement}
+use Rattle.reason.proofs.put_phrase.Tie as tie
 
 pub put-phrase-spec : {M : Type 1} → statement M
 put-phrase-spec =

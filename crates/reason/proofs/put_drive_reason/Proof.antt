@@ -1,9 +1,9 @@
--- `sentence::reason::put_drive_reason` meets its contract, number by number. Assumes nothing.
+-- `reason::put_drive_reason` meets its contract, number by number. Assumes nothing.
 use borrow.Author.Needs.{needs}
 use Rattle.lent.specs.Letters.{letters}
-use Rattle.sentence.specs.Sentence.{reason}
-use Rattle.sentence.proofs.reason.put_drive_reason.Statement.{statement}
-use Rattle.sentence.proofs.reason.put_drive_reason.Tie as tie
+use Rattle.reason.specs.Reason.{reason}
+use Rattle.reason.proofs.put_drive_reason.Statement.{statement}
+use Rattle.reason.proofs.put_drive_reason.Tie as tie
 
 pub put-drive-reason-spec : {M : Type 1} → statement M
 unfolding letters reason

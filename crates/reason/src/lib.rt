@@ -4,8 +4,8 @@ use lent::put_decimal;
 ghost use mathlib.Core.List.{_++_};
 ghost use Prim.Native.Nat.{_≤_};
 ghost use Rattle.lent.specs.Letters.{letters};
-ghost use Rattle.sentence.specs.Phrases.{before};
-ghost use Rattle.sentence.specs.Sentence.{reason, unlistedReason};
+ghost use Rattle.reason.specs.Phrases.{before};
+ghost use Rattle.reason.specs.Reason.{reason, unlistedReason};
 ghost use Rattle.lent.specs.Lent.{Prints};
 
 // The sort of a place: what it counts.
@@ -176,7 +176,7 @@ fn put_module_reason(text: &mut [u8], at: usize, number: u32) -> usize
 }
 
 // The same of any number: of the horizon, of counts and of nodes.
-pub(crate) fn put_reason(text: &mut [u8], at: usize, number: u32) -> usize
+pub fn put_reason(text: &mut [u8], at: usize, number: u32) -> usize
     ensures { λ r. ⌜ Prints (reason number) (now (text .entry)) at (now (text .exit)) r ⌝ }
 {
     match number {

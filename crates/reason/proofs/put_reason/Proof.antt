@@ -1,11 +1,11 @@
--- `sentence::reason::put_reason` meets its contract, number by number. Assumes nothing.
+-- `reason::put_reason` meets its contract, number by number. Assumes nothing.
 use borrow.Author.Needs.{needs}
 use mathlib.Core.Path.{ap}
 use Rattle.lent.specs.Letters.{letters}
-use Rattle.sentence.specs.Phrases.{isListed}
-use Rattle.sentence.specs.Sentence.{reason}
-use Rattle.sentence.proofs.reason.put_reason.Statement.{statement}
-use Rattle.sentence.proofs.reason.put_reason.Tie as tie
+use Rattle.reason.specs.Phrases.{isListed}
+use Rattle.reason.specs.Reason.{reason}
+use Rattle.reason.proofs.put_reason.Statement.{statement}
+use Rattle.reason.proofs.put_reason.Tie as tie
 
 pub put-reason-spec : {M : Type 1} → statement M
 unfolding letters reason

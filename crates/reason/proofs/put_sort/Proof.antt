@@ -1,8 +1,8 @@
--- `sentence::reason::put_sort` meets its contract, sort by sort. Assumes nothing.
+-- `reason::put_sort` meets its contract, sort by sort. Assumes nothing.
 use borrow.Author.Needs.{needs}
 use Rattle.lent.specs.Letters.{letters}
-use Rattle.sentence.proofs.reason.put_sort.Statement.{statement}
-use Rattle.sentence.proofs.reason.put_sort.Tie as tie
+use Rattle.reason.proofs.put_sort.Statement.{statement}
+use Rattle.reason.proofs.put_sort.Tie as tie
 
 pub put-sort-spec : {M : Type 1} → statement M
 unfolding letters

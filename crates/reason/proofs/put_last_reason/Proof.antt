@@ -1,11 +1,11 @@
--- `sentence::reason::put_last_reason` meets its contract, number by number. Assumes nothing.
+-- `reason::put_last_reason` meets its contract, number by number. Assumes nothing.
 use borrow.Author.Needs.{needs}
 use native.Mathlib.Omega.{arith}
 use Rattle.lent.specs.Letters.{letters}
-use Rattle.sentence.specs.Sentence.{reason}
-use Rattle.sentence.proofs.Listed.{above-listed}
-use Rattle.sentence.proofs.reason.put_last_reason.Statement.{statement}
-use Rattle.sentence.proofs.reason.put_last_reason.Tie as tie
+use Rattle.reason.specs.Reason.{reason}
+use Rattle.reason.proofs.Listed.{above-listed}
+use Rattle.reason.proofs.put_last_reason.Statement.{statement}
+use Rattle.reason.proofs.put_last_reason.Tie as tie
 
 pub put-last-reason-spec : {M : Type 1} → statement M
 unfolding letters reason

@@ -1,9 +1,9 @@
--- `sentence::reason::put_unlisted` meets its contract: the phrase, the number, and that its place has no sort. Assumes nothing.
+-- `reason::put_unlisted` meets its contract: the phrase, the number, and that its place has no sort. Assumes nothing.
 use borrow.Author.Needs.{needs}
 use Rattle.lent.specs.Letters.{letters}
 use Rattle.lent.proofs.Putting.{prints-then}
-use Rattle.sentence.proofs.reason.put_unlisted.Statement.{statement}
-use Rattle.sentence.proofs.reason.put_unlisted.Tie as tie
+use Rattle.reason.proofs.put_unlisted.Statement.{statement}
+use Rattle.reason.proofs.put_unlisted.Tie as tie
 
 pub put-unlisted-spec : {M : Type 1} → statement M
 unfolding letters

@@ -5,18 +5,8 @@ use Prim.Native.Nat.{ℕ, _-_}
 use Prim.Native.String.{String}
 use lib.Dec.{leb, ltb}
 use lib.ListN.{length, getD}
-use Rattle.sentence.specs.declared.reason.Sort.{Sort}
-use Rattle.sentence.specs.declared.reason.Sort.the-variants.{Byte, Node, Tick, Length, Bare}
-
--- how a finished call's sentence begins, before its count, and a refusal's; and what stands before a refusal's count of records
-abbrev pub hasFinished : String
-hasFinished = "finished, with a count of "
-
-abbrev pub isRefused : String
-isRefused = "refused: "
-
-abbrev pub recordsWritten : String
-recordsWritten = "; records written: "
+use Rattle.reason.specs.declared.Sort.{Sort}
+use Rattle.reason.specs.declared.Sort.the-variants.{Byte, Node, Tick, Length, Bare}
 
 -- The sort of a place (document 02's term) is what it counts, as its row names it: a byte of the sheet, a node, a tick, the length
 -- that is needed; a bare 0 counts nothing. How the sort stands before the place:

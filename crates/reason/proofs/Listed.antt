@@ -6,7 +6,7 @@ use borrow.Author.Tests.{lt-leb}
 use lib.Dec.{T, leb, ltb, leb→le, ltb→lt}
 use lib.Ieee.Fits.{and-l, and-r}
 use lib.ListN.{length}
-use Rattle.sentence.specs.Phrases.{phrases, isListed}
+use Rattle.reason.specs.Phrases.{phrases, isListed}
 
 -- a listed number is 1 to the last that has a row
 pub listed-is : (n : ℕ) → isListed n ≡ true → (0 < n) × (n ≤ length phrases)

@@ -1,0 +1,3 @@
+-- What is wrong, in words.
+pub mod Phrases
+pub mod Reason
