@@ -2,4 +2,5 @@
 pub mod Longest
 pub mod OneLine
 pub mod Different
+pub mod Told
 pub mod Examples
