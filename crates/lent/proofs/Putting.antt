@@ -3,8 +3,8 @@ use mathlib.Core.List.{List, [], _∷_, _++_, append-assoc, append-nil}
 use mathlib.Core.Path.{_≡_, sym, ap, _∙_}
 use Prim.Native.Nat.{ℕ, suc, _+_, _<_, _≤_}
 use native.Mathlib.Omega.{arith}
-use lib.ListN.{length, drop, set, getD, length-append, length-take, length-drop, drop-of-length-le}
-use lib.Seq.{take-nil, take-all, drop-cons, set-at, take-append-le}
+use lib.ListN.{length, take, drop, set, getD, length-append, length-take, length-drop, take-append-drop, drop-of-length-le}
+use lib.Seq.{take-nil, take-all, drop-cons, set-at, take-append-le, length-take-le}
 use Rattle.lent.specs.Lent.{textAfter, Printed, Prints}
 
 pub none-printed : (text : List ℕ) → Printed text [] text 0
@@ -60,6 +60,20 @@ module _ {start bytes text : List ℕ} {at : ℕ} (p : Printed start bytes text 
 -- bytes that fit are printed whole
 pub whole : {start bytes text : List ℕ} {at : ℕ} → Printed start bytes text at → length bytes ≤ length start → (at ≡ length bytes) × (text ≡ bytes ++ drop (length bytes) start)
 whole {start} {bytes} p fits = (p .place ∙ omega (arith, fits), p .holds ∙ rw (take-all (length start) bytes fits))
+
+-- Up to a text's end, what a step prints fixes the text and the next place: it prints after what already stands there.
+pub determined : {more text text′ : List ℕ} {at at′ : ℕ} → at ≤ length text → Prints more text at text′ at′ → Printed text (take at text ++ more) text′ at′
+determined {text = text} {at = at} within prints = prints text (take at text) standing
+  where
+    so-far : length (take at text) ≡ at
+    so-far = length-take-le at text within
+
+    standing : Printed text (take at text) text at
+    standing =
+        record {
+          place = omega (arith, so-far, within);
+          holds = sym (rw (take-all (length text) (take at text) (omega (arith, so-far, within)), so-far, take-append-drop));
+        }
 
 pub prints-none : (text : List ℕ) (at : ℕ) → Prints [] text at text at
 prints-none text at start bytes p = rw append-nil p

@@ -175,7 +175,7 @@ fn put_module_reason(text: &mut [u8], at: usize, number: u32) -> usize
     }
 }
 
-// The same of any number: of the horizon, of counts and of nodes.
+// Puts what a refusal's number says, up to its place: here of the horizon, of counts and of nodes, and above of all others.
 pub fn put_reason(text: &mut [u8], at: usize, number: u32) -> usize
     ensures { λ r. ⌜ Prints (reason number) (now (text .entry)) at (now (text .exit)) r ⌝ }
 {

@@ -1,5 +1,4 @@
 -- A sentence is one line. Assumes nothing.
-use mathlib.Core.List.{_++_}
 use Rattle.sheet.specs.Outcome.{Outcome, finished, refused}
 use Rattle.lent.specs.Decimal.{decimal}
 use Rattle.lent.specs.Letters.{letters}

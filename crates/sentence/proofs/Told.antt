@@ -1,5 +1,4 @@
 -- What two calls left in their texts tells which answers they described: at the promise of `describe`. Assumes nothing.
-use borrow.Author.Tests.{ltb-false}
 use mathlib.Core.Bool.{Bool, true, false}
 use mathlib.Core.List.{List}
 use mathlib.Core.Path.{_≡_, refl, sym, ap, _∙_}
