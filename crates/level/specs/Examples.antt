@@ -1,4 +1,5 @@
--- Document 01, "Examples": those marked * to be proved, as a table of a value and what the paper says it is. This part has the gates'.
+-- Document 01, "Examples": those marked * to be proved, as a table of a value and what the paper says it is. This part has the gates',
+-- the clocked inverter's as document 02's W-202 has it, at each clock.
 use mathlib.Core.List.{List, [], _∷_, List·Memᴰ}
 use mathlib.Core.Path.{_≡_}
 use Prim.Native.Nat.{ℕ}
@@ -24,6 +25,12 @@ gateExamples =
     ∷ is (or (high ∷ none ∷ [])) high
     ∷ is (xor (unknown ∷ unknown ∷ [])) unknown
     ∷ is (inverter (none ∷ [])) unknown
-    ∷ is (clockedInverter (low ∷ unknown ∷ [])) none
-    ∷ is (clockedInverter (high ∷ unknown ∷ [])) none
+    ∷ is (clockedInverter (low ∷ unknown ∷ [])) unknown
+    ∷ is (clockedInverter (high ∷ unknown ∷ [])) unknown
+    ∷ is (clockedInverter (low ∷ none ∷ [])) unknown
+    ∷ is (clockedInverter (high ∷ none ∷ [])) unknown
+    ∷ is (clockedInverter (low ∷ low ∷ [])) none
+    ∷ is (clockedInverter (high ∷ low ∷ [])) none
+    ∷ is (clockedInverter (low ∷ high ∷ [])) high
+    ∷ is (clockedInverter (high ∷ high ∷ [])) low
     ∷ []

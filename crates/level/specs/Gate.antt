@@ -1,4 +1,5 @@
--- Document 01, "Modules": the rules of kinds 1 to 8 over the list of their inputs' values, and a memory's set of values.
+-- Document 01, "Modules", with document 02's W-202: the rules of kinds 1 to 8 over the list of their inputs' values, and a memory's
+-- set of values.
 use mathlib.Core.Bool.{Bool, true, false, _&&_, _||_, not}
 use mathlib.Core.List.{List, [], _∷_, map}
 use Prim.Native.Nat.{ℕ, _/_, _%_, _^_}
@@ -59,9 +60,9 @@ nand inputs = inverse (and inputs)
 abbrev pub nor : List ℕ → ℕ
 nor inputs = inverse (or inputs)
 
--- second input 1: the inverter of the first; otherwise Z
+-- the second input is the clock. 1: the inverter of the first; 0: Z; X or Z: X
 abbrev pub clockedInverter : List ℕ → ℕ
-clockedInverter inputs = if eqb (inputAt inputs 1) high then inverter inputs else none
+clockedInverter inputs = if eqb (inputAt inputs 1) high then inverter inputs else if eqb (inputAt inputs 1) low then none else unknown
 
 -- a memory's parameter is a set of values, bit v (weight 2 to the power v) standing for value v
 abbrev pub member : ℕ → ℕ → Bool

@@ -140,23 +140,23 @@ const TABLES: [u8; TABLE_ENTRIES] = [
     // 8 clocked inverter, first input 0
     Level::NONE,
     Level::HIGH,
-    Level::NONE,
-    Level::NONE,
+    Level::UNKNOWN, // clock X, first input 0
+    Level::UNKNOWN, // clock Z, first input 0
     // 8 clocked inverter, first input 1
     Level::NONE,
     Level::LOW,
-    Level::NONE,
-    Level::NONE,
+    Level::UNKNOWN, // clock X, first input 1
+    Level::UNKNOWN, // clock Z, first input 1
     // 8 clocked inverter, first input X
     Level::NONE,
     Level::UNKNOWN,
-    Level::NONE,
-    Level::NONE,
+    Level::UNKNOWN, // clock X, first input X
+    Level::UNKNOWN, // clock Z, first input X
     // 8 clocked inverter, first input Z
     Level::NONE,
     Level::UNKNOWN,
-    Level::NONE,
-    Level::NONE,
+    Level::UNKNOWN, // clock X, first input Z
+    Level::UNKNOWN, // clock Z, first input Z
 ];
 
 // The values and what is done with them; a value is a byte, 0 to 3.

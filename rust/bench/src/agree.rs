@@ -1,7 +1,7 @@
 //! All simulators agree on generated sheets before any is timed.
 
 use generate::sheets::MEMORY;
-use generate::{Generator, Size};
+use generate::{every, Generator, Size};
 use plain::Sheet;
 
 use crate::outside::Simulator;
@@ -29,21 +29,29 @@ pub fn ours() {
     }
 }
 
-/// A simulator that is not ours over sheets that are translated for it.
+/// A simulator that is not ours over sheets that are translated for it: all gates at all values,
+/// and generated ones.
 pub fn translations(simulator: &Simulator) {
-    let (sheets, horizon) = (100, 100);
+    for delay in [0, 5] {
+        translation(simulator, &every::gates(delay));
+    }
+    let sheets = 100;
     let mut generator = Generator::new(2);
     let mut translated = 0;
     while translated < sheets {
         let sheet = generator.lively(Size::Small);
-        if sheet.watched.is_empty() || could_catch(&sheet) {
-            continue;
+        if !sheet.watched.is_empty() && !could_catch(&sheet) {
+            translation(simulator, &sheet);
+            translated += 1;
         }
-        let ours = timed::run(timed::plain, 1, &sheet, horizon).records;
-        let theirs = simulator.run(&sheet, horizon).expect(simulator.name);
-        assert!(theirs.records == ours, "{}: {sheet:?}", simulator.name);
-        translated += 1;
     }
+}
+
+fn translation(simulator: &Simulator, sheet: &Sheet) {
+    let horizon = 100;
+    let ours = timed::run(timed::plain, 1, sheet, horizon).records;
+    let theirs = simulator.run(sheet, horizon).expect(simulator.name);
+    assert!(theirs.records == ours, "{}: {sheet:?}", simulator.name);
 }
 
 /// Whether a memory might see values that pass inside a tick, which it would catch there.

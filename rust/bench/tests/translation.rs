@@ -90,8 +90,9 @@ fn kinds_with_two_inputs() {
     }
     says(
         gate(CLOCKED_INVERTER, [0, 1], 2, 7),
-        "always @(go or n0 or n1) if (go) n2 <= #7 (n1 === 1'b1) ? ~n0 : 1'bz;",
-        "n2 <= transport not n0 after 7 ns when n1 = '1' else 'Z' after 7 ns;",
+        "always @(go or n0 or n1) if (go) n2 <= #7 n1 ? ~n0 : 1'bz;",
+        "n2 <= transport not n0 after 7 ns when n1 = '1' else 'Z' after 7 ns when n1 = '0' \
+         else 'X' after 7 ns;",
     );
 }
 

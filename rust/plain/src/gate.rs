@@ -1,4 +1,5 @@
-//! The rules of the kinds, in document 01's words.
+//! The rules of the kinds, in document 01's words, and for the clocked inverter in document 02's,
+//! W-202.
 
 use crate::level::{HIGH, LOW, NONE, UNKNOWN};
 
@@ -73,9 +74,9 @@ fn xor(a: u8, b: u8) -> u8 {
 }
 
 fn clocked_inverter(a: u8, clock: u8) -> u8 {
-    if clock == HIGH {
-        inverter(a)
-    } else {
-        NONE
+    match clock {
+        HIGH => inverter(a),
+        LOW => NONE,
+        _ => UNKNOWN,
     }
 }

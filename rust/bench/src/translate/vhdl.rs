@@ -43,7 +43,8 @@ fn statement(module: &Module) -> String {
     let after = after(module);
     match module.kind {
         CLOCKED_INVERTER => {
-            format!("{output} <= transport not {a}{after} when {b} = '1' else 'Z'{after};")
+            let by_clock = format!("not {a}{after} when {b} = '1' else 'Z'{after} when {b} = '0'");
+            format!("{output} <= transport {by_clock} else 'X'{after};")
         }
         MEMORY => memory_statement(module),
         _ => format!("{output} <= transport {}{after};", result(module)),

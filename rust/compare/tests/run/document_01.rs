@@ -1,5 +1,6 @@
 //! Document 01's examples that are runs.
 
+use generate::every;
 use generate::sheets::*;
 use plain::{worked_run, HIGH, INPUT, LOW, UNKNOWN};
 
@@ -53,7 +54,8 @@ fn an_inverter_onto_its_own_input() {
     assert_eq!(outcome.answer, [18, 0, 0]);
 }
 
-/// The six gates' examples, each as a zero-delay module over two inputs.
+/// The gates' examples, each as a zero-delay module over two inputs. The clocked inverter's are
+/// document 02's, W-202, at each clock.
 #[test]
 fn gates_of_values_that_are_not_known() {
     let examples = [
@@ -62,7 +64,14 @@ fn gates_of_values_that_are_not_known() {
         (OR, [1, 3], 1),
         (XOR, [2, 2], 2),
         (INVERTER, [3, 0], 2),
-        (CLOCKED_INVERTER, [0, 2], 3),
+        (CLOCKED_INVERTER, [0, 2], 2),
+        (CLOCKED_INVERTER, [1, 2], 2),
+        (CLOCKED_INVERTER, [0, 3], 2),
+        (CLOCKED_INVERTER, [1, 3], 2),
+        (CLOCKED_INVERTER, [0, 0], 3),
+        (CLOCKED_INVERTER, [1, 0], 3),
+        (CLOCKED_INVERTER, [0, 1], 1),
+        (CLOCKED_INVERTER, [1, 1], 0),
     ];
     for (kind, [first, second], expected) in examples {
         let used = if kind == INVERTER { [0, 0] } else { [0, 1] };
@@ -70,5 +79,29 @@ fn gates_of_values_that_are_not_known() {
         let drive = [(0, 0, first), (0, 1, second)];
         let sheet = sheet(&[INPUT, INPUT, LOW], &modules, &drive, &[2]);
         assert_eq!(listed(&sheet, 1, "a gate"), [(0, 2, expected)]);
+    }
+}
+
+/// What a node's records say of each tick below the horizon.
+fn values(records: &[Record], node: u8, horizon: u32) -> Vec<u8> {
+    let own = || records.iter().filter(|record| record.1 == node);
+    let latest = |tick| own().rfind(|record| record.0 <= tick).expect("tick 0").2;
+    (0..horizon).map(latest).collect()
+}
+
+/// Every kind at every pair of values, and the clocked inverter's as document 02's W-202 has them.
+#[test]
+fn every_pair_of_values_at_every_gate() {
+    let clocked = [3, 1, 2, 2, 3, 0, 2, 2, 3, 2, 2, 2, 3, 2, 2, 2];
+    for delay in [0, 1, 5] {
+        let horizon = every::PAIRS + u32::from(delay);
+        let records = listed(&every::gates(delay), horizon, "every pair");
+        let of_kind = |kind: u8| values(&records, kind + 1, horizon)[delay.into()..].to_vec();
+        for kind in BUFFER..=CLOCKED_INVERTER {
+            let rule = |pair: u8| plain::rule(kind, 0, pair / 4, pair % 4);
+            let expected: Vec<u8> = (0..every::PAIRS as u8).map(rule).collect();
+            assert_eq!(of_kind(kind), expected, "kind {kind}, delay {delay}");
+        }
+        assert_eq!(of_kind(CLOCKED_INVERTER), clocked, "delay {delay}");
     }
 }

@@ -10,8 +10,18 @@ fn examples_of_document_01() {
     assert_eq!(rule(OR, 0, HIGH, NONE), HIGH);
     assert_eq!(rule(XOR, 0, UNKNOWN, UNKNOWN), UNKNOWN);
     assert_eq!(rule(INVERTER, 0, NONE, LOW), UNKNOWN);
+}
+
+/// Document 02, W-202: the inverter of the first input for clock 1, Z for clock 0, and X for clock
+/// X or Z. Document 01's example with clock X is among them, with its new value.
+#[test]
+fn every_clock() {
     for value in [LOW, HIGH, UNKNOWN, NONE] {
-        assert_eq!(rule(CLOCKED_INVERTER, 0, value, UNKNOWN), NONE);
+        let at = |clock| rule(CLOCKED_INVERTER, 0, value, clock);
+        assert_eq!(at(HIGH), rule(INVERTER, 0, value, LOW));
+        assert_eq!(at(LOW), NONE);
+        assert_eq!(at(UNKNOWN), UNKNOWN);
+        assert_eq!(at(NONE), UNKNOWN);
     }
 }
 
@@ -36,7 +46,7 @@ const TABLES: [(u8, [[u8; 4]; 4]); 6] = [
     ),
     (
         CLOCKED_INVERTER,
-        [[3, 1, 3, 3], [3, 0, 3, 3], [3, 2, 3, 3], [3, 2, 3, 3]],
+        [[3, 1, 2, 2], [3, 0, 2, 2], [3, 2, 2, 2], [3, 2, 2, 2]],
     ),
 ];
 

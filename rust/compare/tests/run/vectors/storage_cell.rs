@@ -3,6 +3,10 @@
 //! "Its three components (l-r) are a clocked inverter with delay 1.7 nsec, a storage node, and an
 //! inverter with delay 0.5 nsec." The document's * is no value, Z. "The storage node holds the
 //! most recent non-* value": a memory that reads one node twice, with all values but Z in its set.
+//!
+//! Its clocked inverter gives * for every clock but 1. Since document 02's W-202 that holds of clock
+//! 0 alone, and a clock of X or Z gives X, which the storage node takes. So what the document says
+//! stands where its clock is 0 or 1, and changed where it is not known.
 
 use generate::sheets::*;
 use plain::{Sheet, HIGH, INPUT, LOW, NONE, UNKNOWN};
@@ -64,6 +68,39 @@ fn a_run_worked_out_by_hand() {
     assert_eq!(listed(&sheet, 100, "storage cell"), expected);
 }
 
+/// The clock is X at ticks 20 to 29 and Z at ticks 30 to 39. By the document's own rule y would be 1
+/// until tick 71.
+#[test]
+fn an_unknown_clock_worked_out_by_hand() {
+    let drive = [
+        (0, A, 1),
+        (0, PHI, 0),
+        (10, PHI, 1),
+        (20, PHI, UNKNOWN),
+        (30, A, 0),
+        (30, PHI, NONE),
+        (40, PHI, 0),
+        (50, PHI, 1),
+    ];
+    let expected = [
+        (0, B, NONE),
+        (0, C, NONE),
+        (0, Y, UNKNOWN),
+        (27, B, LOW),
+        (27, C, LOW),
+        (32, Y, HIGH),
+        (37, B, UNKNOWN),
+        (37, C, UNKNOWN),
+        (42, Y, UNKNOWN),
+        (57, B, NONE),
+        (67, B, HIGH),
+        (67, C, HIGH),
+        (72, Y, LOW),
+    ];
+    let sheet = storage_cell(&drive, &[B, C, Y]);
+    assert_eq!(listed(&sheet, 100, "unknown clock"), expected);
+}
+
 /// Ticks of a stretch in which an input stands still, for each input.
 const STRETCHES: [usize; 2] = [7, 5];
 
@@ -95,6 +132,15 @@ fn by_equation(a: &[u8], phi: &[u8], tick: usize) -> u8 {
     most_recent.map_or(UNKNOWN, |u| at(a, u))
 }
 
+/// That equation with document 02's W-202: what a was when phi was not 0 most recently up to 22
+/// ticks ago, or undefined where phi was X or Z then.
+fn with_unknown_clocks(a: &[u8], phi: &[u8], tick: usize) -> u8 {
+    let up_to_22_ago = 0..(tick + 1).saturating_sub(22);
+    let most_recent = up_to_22_ago.rev().find(|&u| at(phi, u) != LOW);
+    let known = most_recent.filter(|&u| at(phi, u) == HIGH);
+    known.map_or(UNKNOWN, |u| at(a, u))
+}
+
 /// A tick and the value from it on.
 type Step = (u32, u8);
 
@@ -117,26 +163,57 @@ fn drive(a: &[u8], phi: &[u8]) -> Vec<Record> {
     drive
 }
 
+/// Beyond the last change of an input and all delays after it.
+const HORIZON: u32 = 80;
+
+/// What an equation gives y at every tick.
+fn y_by(equation: fn(&[u8], &[u8], usize) -> u8, a: &[u8], phi: &[u8]) -> Vec<Step> {
+    steps((0..HORIZON as usize).map(|tick| equation(a, phi, tick)))
+}
+
+/// What a run lists of the one node that is watched.
+fn y_of(sheet: &Sheet, whence: &str) -> Vec<Step> {
+    let records = listed(sheet, HORIZON, whence).into_iter();
+    records.map(|(tick, _, value)| (tick, value)).collect()
+}
+
 #[test]
 fn the_derived_equation() {
-    let horizon = 80;
-    let value_of = |records: Vec<Record>| -> Vec<Step> {
-        records
-            .into_iter()
-            .map(|(tick, _, value)| (tick, value))
-            .collect()
-    };
     let mut runs = 0;
     for a in every_timeline(&[LOW, HIGH], STRETCHES[0]) {
-        for phi in every_timeline(&[LOW, HIGH, UNKNOWN], STRETCHES[1]) {
+        for phi in every_timeline(&[LOW, HIGH], STRETCHES[1]) {
             let drive = drive(&a, &phi);
-            let expected = steps((0..horizon).map(|tick| by_equation(&a, &phi, tick)));
-            let whole = listed(&storage_cell(&drive, &[Y]), horizon as u32, "storage cell");
-            assert_eq!(value_of(whole), expected, "{drive:?}");
-            let derived = listed(&derived_cell(&drive), horizon as u32, "derived cell");
-            assert_eq!(value_of(derived), expected, "{drive:?}");
+            let expected = y_by(by_equation, &a, &phi);
+            let whole = y_of(&storage_cell(&drive, &[Y]), "storage cell");
+            assert_eq!(whole, expected, "{drive:?}");
+            let derived = y_of(&derived_cell(&drive), "derived cell");
+            assert_eq!(derived, expected, "{drive:?}");
+            assert_eq!(y_by(with_unknown_clocks, &a, &phi), expected, "{drive:?}");
             runs += 1;
         }
     }
-    assert_eq!(runs, 32 * 243);
+    assert_eq!(runs, 32 * 32);
+}
+
+/// The cell as a whole follows the changed rule. The derived cell, which is the document's own
+/// equation and has no clocked inverter, does not where the clock is X or Z.
+#[test]
+fn clocks_that_are_not_known() {
+    let (mut runs, mut changed) = (0, 0);
+    for a in every_timeline(&[LOW, HIGH], STRETCHES[0]) {
+        for phi in every_timeline(&[LOW, HIGH, UNKNOWN, NONE], STRETCHES[1]) {
+            let drive = drive(&a, &phi);
+            let expected = y_by(with_unknown_clocks, &a, &phi);
+            let whole = y_of(&storage_cell(&drive, &[Y]), "storage cell");
+            assert_eq!(whole, expected, "{drive:?}");
+            let documents = y_by(by_equation, &a, &phi);
+            let derived = y_of(&derived_cell(&drive), "derived cell");
+            assert_eq!(derived, documents, "{drive:?}");
+            runs += 1;
+            changed += usize::from(documents != expected);
+        }
+    }
+    println!("{changed} of {runs} runs changed");
+    assert_eq!(runs, 32 * 1_024);
+    assert!(changed > runs / 2, "{changed} of {runs}");
 }
