@@ -21,7 +21,7 @@ pub fn single_bytes(bytes: &[u8]) -> impl Iterator<Item = Vec<u8>> + '_ {
     })
 }
 
-/// The pairs of values, by which tick of [`gates`] they are seen at: first and second input.
+/// How many pairs of values there are, and so at how many ticks [`gates`] sees a new one.
 pub const PAIRS: u32 = 16;
 
 /// A gate of each kind over the same two inputs, which go through every pair of values, one a tick:

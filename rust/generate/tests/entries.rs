@@ -1,13 +1,14 @@
 //! Lively sheets look at every entry of every gate's table, those of values that are not known
 //! included.
 
+use generate::sheets::{BUFFER, CLOCKED_INVERTER};
 use generate::{Generator, Size};
 use plain::{Module, Sheet, LOW};
 
 const HORIZON: u32 = 60;
 
 /// By kind, first and second input's value.
-type Entries = [[[u32; 4]; 4]; 9];
+type Entries = [[[u32; 4]; 4]; CLOCKED_INVERTER as usize + 1];
 
 /// The kinds that are gates, by how many inputs they have.
 const OF_ONE: [usize; 2] = [1, 2];
@@ -16,8 +17,8 @@ const OF_TWO: [usize; 6] = [3, 4, 5, 6, 7, 8];
 /// Counts the entries that the gates of a sheet look at so early that their outputs show it.
 fn add(met: &mut Entries, sheet: &Sheet) {
     let cells = plain::cells(sheet, HORIZON);
-    let gates = sheet.modules.iter().filter(|m| (1..=8).contains(&m.kind));
-    for gate in gates {
+    let is_gate = |module: &&Module| (BUFFER..=CLOCKED_INVERTER).contains(&module.kind);
+    for gate in sheet.modules.iter().filter(is_gate) {
         let shown = HORIZON.saturating_sub(gate.delay.into()) as usize;
         for tick in 0..shown {
             let [first, second] = used_values(gate, &cells, tick);

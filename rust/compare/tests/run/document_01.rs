@@ -55,7 +55,7 @@ fn an_inverter_onto_its_own_input() {
 }
 
 /// The gates' examples, each as a zero-delay module over two inputs. The clocked inverter's are
-/// document 02's, W-202, at each clock.
+/// as document 02's W-202 has them.
 #[test]
 fn gates_of_values_that_are_not_known() {
     let examples = [
@@ -68,10 +68,6 @@ fn gates_of_values_that_are_not_known() {
         (CLOCKED_INVERTER, [1, 2], 2),
         (CLOCKED_INVERTER, [0, 3], 2),
         (CLOCKED_INVERTER, [1, 3], 2),
-        (CLOCKED_INVERTER, [0, 0], 3),
-        (CLOCKED_INVERTER, [1, 0], 3),
-        (CLOCKED_INVERTER, [0, 1], 1),
-        (CLOCKED_INVERTER, [1, 1], 0),
     ];
     for (kind, [first, second], expected) in examples {
         let used = if kind == INVERTER { [0, 0] } else { [0, 1] };

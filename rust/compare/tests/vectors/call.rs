@@ -1,5 +1,7 @@
 //! A vector's call, by one simulator or the other.
 
+use compare::Lent;
+
 use crate::vector::{Outcome, Vector, UNTOUCHED};
 
 /// The calls that vectors name, each giving number, place and count.
@@ -29,11 +31,12 @@ impl Simulator {
                 buffers: Vec::new(),
             },
             ("run", &[length]) => {
-                let mut listing = Filled::new(length);
+                let length = length as usize;
+                let mut listing = untouched(length);
                 let answer = (self.run)(&vector.sheet, vector.horizon, listing.lent());
                 Outcome {
                     answer,
-                    buffers: vec![listing.left()],
+                    buffers: vec![left(&listing, length)],
                 }
             }
             (call, numbers) => panic!("line {}: {call} with {numbers:?}", vector.line),
@@ -41,35 +44,18 @@ impl Simulator {
     }
 }
 
-/// Bytes before and after the lent ones, to be left alone.
-const GUARD: usize = 64;
-
-/// A buffer that is lent to one call.
-struct Filled {
-    bytes: Vec<u8>,
-    lent: std::ops::Range<usize>,
+/// A buffer to be lent to one call.
+fn untouched(length: usize) -> Lent {
+    let mut buffer = Lent::new(length);
+    buffer.lent().fill(UNTOUCHED);
+    buffer
 }
 
-impl Filled {
-    fn new(length: u32) -> Filled {
-        let lent = GUARD..GUARD + length as usize;
-        Filled {
-            bytes: vec![UNTOUCHED; lent.end + GUARD],
-            lent,
-        }
-    }
-
-    fn lent(&mut self) -> &mut [u8] {
-        &mut self.bytes[self.lent.clone()]
-    }
-
-    /// What is left in it, without the untouched bytes at its end.
-    fn left(&self) -> Vec<u8> {
-        let (before, rest) = self.bytes.split_at(self.lent.start);
-        let (lent, after) = rest.split_at(self.lent.len());
-        let mut around = before.iter().chain(after);
-        assert!(around.all(|&byte| byte == UNTOUCHED), "a stray byte");
-        let written = lent.iter().rposition(|&byte| byte != UNTOUCHED);
-        lent[..written.map_or(0, |last| last + 1)].to_vec()
-    }
+/// What a call left in a buffer, without the untouched bytes at its end.
+fn left(buffer: &Lent, length: usize) -> Vec<u8> {
+    let bytes = buffer
+        .written(length)
+        .expect("nothing around it is written");
+    let last = bytes.iter().rposition(|&byte| byte != UNTOUCHED);
+    bytes[..last.map_or(0, |last| last + 1)].to_vec()
 }

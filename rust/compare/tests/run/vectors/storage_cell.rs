@@ -123,21 +123,24 @@ fn at(timeline: &[u8], tick: usize) -> u8 {
     timeline[tick.min(timeline.len() - 1)]
 }
 
+/// The most recent tick up to 22 ago at which phi was as asked.
+fn most_recent(phi: &[u8], tick: usize, asked: fn(u8) -> bool) -> Option<usize> {
+    let up_to_22_ago = 0..(tick + 1).saturating_sub(22);
+    up_to_22_ago.rev().find(|&u| asked(at(phi, u)))
+}
+
 /// Section IV's simplified equation, "y(t) = (if (=? 1 phi({<- [=? 1 phi(u)] (t-2.2)})) a({<- [=?
 /// 1 phi(u)] (t-2.2)}) -*)": what a was when phi was 1 most recently up to 22 ticks ago. Where it
 /// never was, the inverter of * stands, which is undefined.
 fn by_equation(a: &[u8], phi: &[u8], tick: usize) -> u8 {
-    let up_to_22_ago = 0..(tick + 1).saturating_sub(22);
-    let most_recent = up_to_22_ago.rev().find(|&u| at(phi, u) == HIGH);
-    most_recent.map_or(UNKNOWN, |u| at(a, u))
+    most_recent(phi, tick, |phi| phi == HIGH).map_or(UNKNOWN, |u| at(a, u))
 }
 
 /// That equation with document 02's W-202: what a was when phi was not 0 most recently up to 22
 /// ticks ago, or undefined where phi was X or Z then.
 fn with_unknown_clocks(a: &[u8], phi: &[u8], tick: usize) -> u8 {
-    let up_to_22_ago = 0..(tick + 1).saturating_sub(22);
-    let most_recent = up_to_22_ago.rev().find(|&u| at(phi, u) != LOW);
-    let known = most_recent.filter(|&u| at(phi, u) == HIGH);
+    let stored = most_recent(phi, tick, |phi| phi != LOW);
+    let known = stored.filter(|&u| at(phi, u) == HIGH);
     known.map_or(UNKNOWN, |u| at(a, u))
 }
 
@@ -188,7 +191,6 @@ fn the_derived_equation() {
             assert_eq!(whole, expected, "{drive:?}");
             let derived = y_of(&derived_cell(&drive), "derived cell");
             assert_eq!(derived, expected, "{drive:?}");
-            assert_eq!(y_by(with_unknown_clocks, &a, &phi), expected, "{drive:?}");
             runs += 1;
         }
     }
