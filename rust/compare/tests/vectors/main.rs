@@ -1,6 +1,6 @@
-//! Calls and their whole outcome after a request of document 02, which two readings of documents 01
-//! and 02 agreed on before anything was proved: answers and every byte of the lent buffers, by the
-//! proved library and by the plain simulator.
+//! Calls and their whole outcome after a request of document 02, on which two independent readings
+//! of documents 01 and 02 agree: answers and every byte of the lent buffers, by the proved library and
+//! by the plain simulator.
 
 mod call;
 mod vector;
