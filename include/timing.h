@@ -16,7 +16,8 @@ extern "C" {
 
 /*
  * answer[0], the number. A call answers TIMING_FINISHED, or the first refusal that the sheet, read
- * front to back, or the run meets. Checking gives 0 and 2 to 18, a run 0 to 20, describing 0 and 21.
+ * front to back, or the run meets. A strict check gives 0 and 2 to 18, a check these but 15, a run 0 to 20
+ * but 15, describing 0 and 21.
  */
 enum timing_number {
     TIMING_FINISHED = 0, /* the sheet is accepted, the run has reached its horizon, or the text is written */
@@ -43,7 +44,7 @@ enum timing_number {
     TIMING_VALUE_ABOVE = 13,      /* an event: value above 3 */
     TIMING_NOT_ABOVE_BEFORE = 14, /* an event: not above the one before, by tick and then by node */
 
-    /* After the drive; the place is the least such node. */
+    /* After the drive, in a strict check alone; the place is the least such node. */
     TIMING_NO_FIRST_EVENT = 15, /* an input without an event at tick 0 */
 
     /* The place is the watched node's byte. */
@@ -112,20 +113,28 @@ enum timing_value {
  */
 
 /*
- * The bytes of stack that a call uses below its caller's frame, whatever it is given: measured (214.3,
+ * The bytes of stack that a call uses below its caller's frame, whatever it is given: measured (214.2,
  * 234.2 and 3.2 KiB) and rounded up, the first two to 16 KiB. A thread needs some for itself besides.
+ * A strict check uses no more than a check is said to.
  */
 #define TIMING_CHECK_STACK 229376
 #define TIMING_RUN_STACK 245760
 #define TIMING_DESCRIBE_STACK 4096
 
-/* Checks the sheet without running it. The count is always 0. */
+/* Checks the sheet without running it. The count is always 0. A run refuses the same sheets. */
 void timing_check(const uint8_t *sheet, size_t length, uint32_t answer[3]);
+
+/*
+ * Checks the sheet and that each of its inputs has an event at tick 0. Its answer is that of timing_check,
+ * or TIMING_NO_FIRST_EVENT where timing_check has nothing to refuse up to the end of the drive.
+ */
+void timing_check_strict(const uint8_t *sheet, size_t length, uint32_t answer[3]);
 
 /*
  * Runs the sheet to the horizon and writes the records to the front of the listing, rising by tick
  * and then by node: each watched node's value at tick 0, and from then on its changes below the
- * horizon. A buffer takes bytes / TIMING_RECORD_SIZE records, rounded down.
+ * horizon. An input is TIMING_UNKNOWN until its first event. A buffer takes bytes / TIMING_RECORD_SIZE
+ * records, rounded down.
  *
  * Finished: the records are all there are. Refusals 1 to 18: none is written. TIMING_NO_ROOM: those
  * of all earlier ticks. TIMING_CROWDED: those and this tick's. The buffer keeps every byte past the

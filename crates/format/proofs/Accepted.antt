@@ -2,9 +2,10 @@
 -- Assumes nothing.
 use lib.Dec.{lit<, lit≤}
 use lib.ListN.{length}
+use mathlib.Core.Bool.{Bool, true, false, false≢true}
 use mathlib.Core.List.{List}
 use mathlib.Core.Logic.{_⊎_, inl, inr, Dec·not-not}
-use mathlib.Core.Path.{_≡_, sym, ap, _∙_, subst, subst₂}
+use mathlib.Core.Path.{_≡_, refl, sym, ap, _∙_, subst, subst₂}
 use native.Mathlib.Decide.{ℕ-discrete}
 use native.Mathlib.Nat.{lt-of-not-le, not-le-of-lt, le-antisymm, le-refl, le-of-eq, le-trans, mul-le-mul-left, mul-suc}
 use native.Mathlib.Omega.{arith}
@@ -17,9 +18,9 @@ use Rattle.sheet.specs.Bytes.{wordAt}
 use Rattle.sheet.specs.Sheet.{Sheet, nodeCount, moduleCount, moduleOf, outputOf, eventCount, eventOf, watchedCount, watchedNode}
 use Rattle.sheet.specs.Layout.{countSize, nodesCounted, nodeAt, modulesCounted, moduleAt, eventsCounted, eventAt, watchedPlace, watchedCounted, watchedAt, sheetEnd, sheetOf}
 use Rattle.sheet.specs.Wiring.{isInput, drivenAtStart}
-use Rattle.sheet.specs.Refusal.{key, checked}
-use Rattle.format.specs.Accepted.{Driven, Input, SoundModule, SoundEvent, Accepted, Known, the-first, AcceptedIn}
-use Rattle.format.specs.Condition.{Count, of-nodes, of-modules, of-drive, of-watched, Part, a-count, a-node, a-module, an-event, a-watched, Miswired, output-no-node, input-no-node, unused-not-0, NotAbove, not-above, Condition, ends-inside, outside-range, byte-above, kind-above, parameter-not-allowed, wrong-wiring, delay-above, already-driven, driven-or-not, tick-above, not-an-input, value-above, not-above-before, no-first-event, wrong-watched, left-over, on-loop}
+use Rattle.sheet.specs.Refusal.{key, checkedBy, checked, checkedStrictly}
+use Rattle.format.specs.Accepted.{Driven, Input, SoundModule, SoundEvent, Accepted, Known, the-first, AcceptedIn, DrivenAtStart, StrictlyAcceptedIn}
+use Rattle.format.specs.Condition.{Count, of-nodes, of-modules, of-drive, of-watched, Part, a-count, a-node, a-module, an-event, a-watched, Miswired, output-no-node, input-no-node, unused-not-0, NotAbove, not-above, ConditionBy, ends-inside, outside-range, byte-above, kind-above, parameter-not-allowed, wrong-wiring, delay-above, already-driven, driven-or-not, tick-above, not-an-input, value-above, not-above-before, no-first-event, wrong-watched, left-over, on-loop}
 use Rattle.sheet.proofs.Tests.{decided, at-most}
 use Rattle.sheet.proofs.Parts.{node-count, node-byte, module-count, module-of, event-count, event-of, watched-count, watched-node}
 use Rattle.format.proofs.Condition.{tells-input, tells-at-start}
@@ -67,7 +68,7 @@ module _ (E : Edition) (s : List ℕ) where
   listed-watched h = rw (watched-count E s) at h
 
   -- Without a condition met.
-  module _ (known : Known E) (none : (n p : ℕ) → Condition E s n p → ⊥) where
+  module _ (known : Known E) {strict : Bool} (none : (n p : ℕ) → ConditionBy strict E s n p → ⊥) where
     fits : {p size : ℕ} → Part E s p size → p + size ≤ length s
     fits part = at-most (λ h. none _ _ (ends-inside part h))
 
@@ -146,13 +147,15 @@ module _ (E : Edition) (s : List ℕ) where
           initial-values = λ v h d. rw (node-byte E s v (node h)) (driven-byte v (node h) d);
           inputs = λ v i. node-byte E s v (node (i .node)) ∙ input-at v i;
           drive-rises = rises (λ k. key (eventOf S k)) (eventCount S) events-rise;
-          driven-at-start = λ v i. Dec·not-not (decided (drivenAtStart S v) (tells-at-start S v)) .0 (λ c. none _ _ (no-first-event v i c));
           watched-rise = rises (watchedNode S) (watchedCount S) watched-rises;
           no-loop = λ v l. none _ _ (on-loop v l);
         }
 
     bytes-accepted : AcceptedIn E s
     bytes-accepted = record { sheet = sheet-accepted; kinds = λ m h. rw (module-of E s m (listed-module h)) (kind-in-range m (listed-module h)); whole = all-there }
+
+    started-at-0 : strict ≡ true → (v : ℕ) → Input S v → DrivenAtStart S v
+    started-at-0 is v i = Dec·not-not (decided (drivenAtStart S v) (tells-at-start S v)) .0 (λ c. none _ _ (no-first-event is v i c))
 
 -- The other way: every count and record ends by the sheet's end
 ends : {E : Edition} {s : List ℕ} {p size : ℕ} → Part E s p size → p + size ≤ sheetEnd E s
@@ -211,29 +214,45 @@ module _ (E : Edition) (s : List ℕ) (a : AcceptedIn E s) where
       output : (i : ℕ) → i < modulesCounted s → outputOf S′ i ≡ moduleAt E s i .output
       output i k = ap (λ r. r .output) (module-of E s i k)
 
-  refuted : (n p : ℕ) → Condition E s n p → ⊥
-  refuted n p (ends-inside part h) = not-le-of-lt h (le-trans (ends part) (le-of-eq (sym (a .whole))))
-  refuted n p (outside-range c (inl h)) = not-le-of-lt h (ranged c .0)
-  refuted n p (outside-range c (inr h)) = not-le-of-lt h (ranged c .1)
-  refuted n p (byte-above v h c) = not-le-of-lt c (rw (node-byte E s v h) at (a′ .node-bytes v (rw (node-count E s) h)))
-  refuted n p (kind-above m h c) = not-le-of-lt c (rw (module-of E s m h) at (a .kinds m (rw (module-count E s) h)))
-  refuted n p (parameter-not-allowed m h c) = not-le-of-lt c (sound m h .parameter)
-  refuted n p (wrong-wiring m h c) = wired m h c
-  refuted n p (delay-above m h c) = not-le-of-lt c (sound m h .delay)
-  refuted n p (already-driven m h b l c) = twice m b h l c
-  refuted n p (driven-or-not v h c) = started v h c
-  refuted n p (tick-above k h c) = not-le-of-lt c (sound-at k h .tick)
-  refuted n p (not-an-input k h c) = c (sound-at k h .node)
-  refuted n p (value-above k h c) = not-le-of-lt c (sound-at k h .value)
-  refuted n p (not-above-before k h c) = risen events-risen k h c
-  refuted n p (no-first-event v i c) = c (a′ .driven-at-start v i)
-  refuted n p (wrong-watched k h (inl c)) = not-le-of-lt (subst₂ _<_ (watched-node E s k h) (node-count E s) (a′ .watched-nodes k (rw (watched-count E s) h))) c
-  refuted n p (wrong-watched k h (inr c)) = risen watched-risen k h c
-  refuted n p (left-over c) = not-le-of-lt c (le-of-eq (a .whole))
-  refuted n p (on-loop v c) = a′ .no-loop v c
+  -- in a strict check, with the inputs' first events
+  refuted : {strict : Bool} → (strict ≡ true → (v : ℕ) → Input S′ v → DrivenAtStart S′ v) → (n p : ℕ) → ConditionBy strict E s n p → ⊥
+  refuted first n p (ends-inside part h) = not-le-of-lt h (le-trans (ends part) (le-of-eq (sym (a .whole))))
+  refuted first n p (outside-range c (inl h)) = not-le-of-lt h (ranged c .0)
+  refuted first n p (outside-range c (inr h)) = not-le-of-lt h (ranged c .1)
+  refuted first n p (byte-above v h c) = not-le-of-lt c (rw (node-byte E s v h) at (a′ .node-bytes v (rw (node-count E s) h)))
+  refuted first n p (kind-above m h c) = not-le-of-lt c (rw (module-of E s m h) at (a .kinds m (rw (module-count E s) h)))
+  refuted first n p (parameter-not-allowed m h c) = not-le-of-lt c (sound m h .parameter)
+  refuted first n p (wrong-wiring m h c) = wired m h c
+  refuted first n p (delay-above m h c) = not-le-of-lt c (sound m h .delay)
+  refuted first n p (already-driven m h b l c) = twice m b h l c
+  refuted first n p (driven-or-not v h c) = started v h c
+  refuted first n p (tick-above k h c) = not-le-of-lt c (sound-at k h .tick)
+  refuted first n p (not-an-input k h c) = c (sound-at k h .node)
+  refuted first n p (value-above k h c) = not-le-of-lt c (sound-at k h .value)
+  refuted first n p (not-above-before k h c) = risen events-risen k h c
+  refuted first n p (no-first-event is v i c) = c (first is v i)
+  refuted first n p (wrong-watched k h (inl c)) = not-le-of-lt (subst₂ _<_ (watched-node E s k h) (node-count E s) (a′ .watched-nodes k (rw (watched-count E s) h))) c
+  refuted first n p (wrong-watched k h (inr c)) = risen watched-risen k h c
+  refuted first n p (left-over c) = not-le-of-lt c (le-of-eq (a .whole))
+  refuted first n p (on-loop v c) = a′ .no-loop v c
 
-pub accepted : (E : Edition) → Known E → (s : List ℕ) → checked E s ≡ finished 0 → AcceptedIn E s
-accepted E known s e = bytes-accepted E s known (finished-iff E (some-size known) s .0 e)
+-- a check that is strict or not
+module _ (strict : Bool) (E : Edition) (known : Known E) (s : List ℕ) where
+  pub accepted-by : checkedBy strict E s ≡ finished 0 → AcceptedIn E s
+  accepted-by e = bytes-accepted E s known (finished-iff strict E (some-size known) s .0 e)
 
-pub conversely : (E : Edition) → Known E → (s : List ℕ) → AcceptedIn E s → checked E s ≡ finished 0
-conversely E known s a = finished-iff E (some-size known) s .1 (refuted E s a)
+  finishes : AcceptedIn E s → (strict ≡ true → (v : ℕ) → Input (sheetOf E s) v → DrivenAtStart (sheetOf E s) v) → checkedBy strict E s ≡ finished 0
+  finishes a first = finished-iff strict E (some-size known) s .1 (refuted E s a first)
+
+module _ (E : Edition) (known : Known E) (s : List ℕ) where
+  pub accepted : checked E s ≡ finished 0 → AcceptedIn E s
+  accepted = accepted-by false E known s
+
+  pub conversely : AcceptedIn E s → checked E s ≡ finished 0
+  conversely a = finishes false E known s a (λ e. absurd (false≢true e))
+
+  pub strictly : checkedStrictly E s ≡ finished 0 → StrictlyAcceptedIn E s
+  strictly e = record { accepted = accepted-by true E known s e; driven-at-start = started-at-0 E s known (finished-iff true E (some-size known) s .0 e) refl }
+
+  pub strictly-conversely : StrictlyAcceptedIn E s → checkedStrictly E s ≡ finished 0
+  strictly-conversely a = finishes true E known s (a .accepted) (λ _. a .driven-at-start)

@@ -7,7 +7,7 @@ use Prim.Native.Nat.{ℕ}
 use Rattle.level.specs.Choice.{if_then_else_}
 use Rattle.sheet.specs.declared.Edition.{Edition}
 use Rattle.sheet.specs.Outcome.{Outcome, finished, refused}
-use Rattle.sheet.specs.Refusal.{Row, _at_when_, rows, first, checked}
+use Rattle.sheet.specs.Refusal.{Row, _at_when_, rows, first, checkedBy}
 use Rattle.format.specs.FirstMet.{FirstMet}
 use Rattle.sheet.proofs.Rows.{_and_, finished≢refused, first-clear, passed-append}
 
@@ -51,6 +51,6 @@ unfolding first
 first-refused xs n p f = ap first (f .there) ∙ passed-append (f .before) ((n at p when true) ∷ f .after) (first-clear (f .before) .1 (f .none-before))
 
 -- the table of a sheet
-pub refused-iff : (E : Edition) (s : List ℕ) (n p : ℕ) → (checked E s ≡ refused n p 0) ↔ FirstMet (rows E s) n p
-unfolding checked
-refused-iff E s n p = (first-met (rows E s) n p, first-refused (rows E s) n p)
+pub refused-iff : (strict : Bool) (E : Edition) (s : List ℕ) (n p : ℕ) → (checkedBy strict E s ≡ refused n p 0) ↔ FirstMet (rows strict E s) n p
+unfolding checkedBy
+refused-iff strict E s n p = (first-met (rows strict E s) n p, first-refused (rows strict E s) n p)

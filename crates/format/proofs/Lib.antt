@@ -10,6 +10,7 @@ pub mod Places
 pub mod Table
 pub mod Checked
 pub mod Accepted
+pub mod Strict
 pub mod Loop
 pub mod Order
 pub mod OneToOne

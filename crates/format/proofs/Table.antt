@@ -8,17 +8,18 @@ use mathlib.Core.Path.{_≡_, refl, subst}
 use Prim.Native.Nat.{ℕ, _+_, _<_, _≤_}
 use Rattle.sheet.specs.Bytes.{byteAt, wordAt}
 use Rattle.sheet.specs.declared.Edition.{Edition}
+use Rattle.sheet.specs.Enumerate.{each}
 use Rattle.sheet.specs.Limits.{inputByte, lastValue, longestDelay, lastTick}
 use Rattle.sheet.specs.Sheet.{nodeCount}
 use Rattle.sheet.specs.Layout.{nodesCounted, nodeAt, modulesCounted, modulePlace, moduleRecord, moduleAt, eventsCounted, eventPlace, eventRecord, eventAt, watchedCounted, watchPlace, watchedAt, sheetEnd, sheetOf}
 use Rattle.sheet.specs.Wiring.{isInput}
 use Rattle.sheet.specs.Loop.{OnLoop}
-use Rattle.sheet.specs.Refusal.{Row, _at_when_, outside, greatestParameter, key, countRows, nodeRows, moduleRows, startRows, eventRows, firstEventRows, watchedRows, leftOverRows, loopRows, bytesRows, rows}
+use Rattle.sheet.specs.Refusal.{Row, _at_when_, outside, greatestParameter, key, countRows, nodeRows, moduleRows, startRows, eventRows, firstEventRows, firstEventsSection, watchedRows, leftOverRows, loopRows, bytesRows, rows}
 use Rattle.format.specs.Accepted.{Driven, Input, DrivenAtStart}
-use Rattle.format.specs.Condition.{Count, of-nodes, of-modules, of-drive, of-watched, Part, a-count, a-node, a-module, an-event, a-watched, Miswired, NotAbove, Condition, ends-inside, outside-range, byte-above, kind-above, parameter-not-allowed, wrong-wiring, delay-above, already-driven, driven-or-not, tick-above, not-an-input, value-above, not-above-before, no-first-event, wrong-watched, left-over, on-loop}
+use Rattle.format.specs.Condition.{Count, of-nodes, of-modules, of-drive, of-watched, Part, a-count, a-node, a-module, an-event, a-watched, Miswired, NotAbove, ConditionBy, ends-inside, outside-range, byte-above, kind-above, parameter-not-allowed, wrong-wiring, delay-above, already-driven, driven-or-not, tick-above, not-an-input, value-above, not-above-before, no-first-event, wrong-watched, left-over, on-loop}
 use Rattle.sheet.proofs.Tests.{Tells, tells-as, tells-lt, tells-not, tells-outside}
 use Rattle.sheet.proofs.Parts.{node-count}
-use Rattle.sheet.proofs.Rows.{All, all-nil, _and_, _then_, all-each}
+use Rattle.sheet.proofs.Rows.{All, all-nil, _and_, _then_, all-each, all-where}
 use Rattle.format.proofs.Sections.{in-count, in-node, in-module, in-event, in-watched-node, in-start, in-first-event, in-left-over, in-bytes, in-loop}
 use Rattle.format.proofs.Condition.{tells-input, tells-miswired, tells-earlier, tells-start, tells-event, tells-first-event, tells-wrong-watched}
 use Rattle.format.proofs.Chains.{loop-node, loop-test}
@@ -33,8 +34,8 @@ abbrev WrongWatched : Edition → List ℕ → ℕ → Type 0
 WrongWatched E s k = nodesCounted s ≤ watchedAt E s k ⊎ NotAbove (watchedAt E s) k
 
 -- What a condition says, by its number, of its place alone.
-abbrev Says : Edition → List ℕ → ℕ → ℕ → Type 0
-Says E s n p =
+abbrev Says : Bool → Edition → List ℕ → ℕ → ℕ → Type 0
+Says strict E s n p =
     getD
     (⊥
     ∷ ⊥
@@ -51,7 +52,7 @@ Says E s n p =
     ∷ (Input (sheetOf E s) (eventRecord s p .node) → ⊥)
     ∷ (lastValue < eventRecord s p .value)
     ∷ ((k : ℕ) × (eventPlace E s k ≡ p) × NotAbove (λ k. key (eventAt E s k)) k)
-    ∷ (Input (sheetOf E s) p × (DrivenAtStart (sheetOf E s) p → ⊥))
+    ∷ ((strict ≡ true) × Input (sheetOf E s) p × (DrivenAtStart (sheetOf E s) p → ⊥))
     ∷ ((k : ℕ) × (watchPlace E s k ≡ p) × WrongWatched E s k)
     ∷ (sheetEnd E s < length s)
     ∷ OnLoop (sheetOf E s) p
@@ -59,7 +60,7 @@ Says E s n p =
     n
     ⊥
 
-says : {E : Edition} {s : List ℕ} {n p : ℕ} → Condition E s n p → Says E s n p
+says : {strict : Bool} {E : Edition} {s : List ℕ} {n p : ℕ} → ConditionBy strict E s n p → Says strict E s n p
 says (ends-inside {size} part h) = (size, part, h)
 says (outside-range {least} {greatest} c h) = (least, greatest, c, h)
 says (byte-above v h c) = c
@@ -73,10 +74,14 @@ says (tick-above e h c) = c
 says (not-an-input e h c) = c
 says (value-above e h c) = c
 says (not-above-before e h c) = (e, refl, c)
-says (no-first-event v i c) = (i, c)
+says (no-first-event is v i c) = (is, i, c)
 says (wrong-watched k h c) = (k, refl, c)
 says (left-over c) = c
 says (on-loop v c) = c
+
+-- the condition of 15 is a strict check's alone
+pub strict-at-15 : {strict : Bool} {E : Edition} {s : List ℕ} {p : ℕ} → ConditionBy strict E s 15 p → strict ≡ true
+strict-at-15 c = says c .0
 
 here : {r : Row} {xs : List Row} → List·Memᴰ r (r ∷ xs)
 here = List·Memᴰ·head refl
@@ -86,38 +91,38 @@ of-this : (P : ℕ → Type 0) (place : ℕ → ℕ) → ((a b : ℕ) → place 
 of-this P place same m h = subst P (same (h .0) m (h .1)) (h .2)
 
 -- Each row, by its section: the test tells the condition, since number and place determine what is tested.
-abbrev Told : Edition → List ℕ → Row → Type 0
-Told E s r = Tells (r .met) (Condition E s (r .number) (r .place))
+abbrev Told : Bool → Edition → List ℕ → Row → Type 0
+Told strict E s r = Tells (r .met) (ConditionBy strict E s (r .number) (r .place))
 
-module _ (E : Edition) (some : 0 < E .size) (s : List ℕ) where
-  by-order : {n p : ℕ} (a b : ℕ) → (a < b → Condition E s n p) → (Condition E s n p → a < b) → Tells (ltb a b) (Condition E s n p)
+module _ (strict : Bool) (E : Edition) (some : 0 < E .size) (s : List ℕ) where
+  by-order : {n p : ℕ} (a b : ℕ) → (a < b → ConditionBy strict E s n p) → (ConditionBy strict E s n p → a < b) → Tells (ltb a b) (ConditionBy strict E s n p)
   by-order a b to from = tells-as (tells-lt a b) (to, from)
 
-  short-told : {p size : ℕ} → Part E s p size → Tells (ltb (length s) (p + size)) (Condition E s 2 p)
+  short-told : {p size : ℕ} → Part E s p size → Tells (ltb (length s) (p + size)) (ConditionBy strict E s 2 p)
   short-told {p} {size} part = by-order (length s) (p + size) (ends-inside part) (λ c. let h = says c in subst (λ size. length s < p + size) (same-size some (h .1) part) (h .2))
 
-  outside-told : {p least greatest : ℕ} → Count E s p least greatest → Tells (outside least greatest (wordAt s p)) (Condition E s 3 p)
+  outside-told : {p least greatest : ℕ} → Count E s p least greatest → Tells (outside least greatest (wordAt s p)) (ConditionBy strict E s 3 p)
   outside-told {p} {least} {greatest} c = tells-as (tells-outside least greatest (wordAt s p)) (outside-range c, again)
     where
       Outside : ℕ × ℕ → Type 0
       Outside range = wordAt s p < range .0 ⊎ range .1 < wordAt s p
 
-      again : Condition E s 3 p → Outside (least, greatest)
+      again : ConditionBy strict E s 3 p → Outside (least, greatest)
       again t = let h = says t in subst Outside (same-range (h .2) c) (h .3)
 
-  count-told : {p least greatest : ℕ} → Count E s p least greatest → All (Told E s) (countRows s p least greatest)
+  count-told : {p least greatest : ℕ} → Count E s p least greatest → All (Told strict E s) (countRows s p least greatest)
   count-told c =
       short-told (a-count c)
       and outside-told c
-      and all-nil (Told E s)
+      and all-nil (Told strict E s)
 
-  node-told : (v : ℕ) → v < nodesCounted s → All (Told E s) (nodeRows s v)
+  node-told : (v : ℕ) → v < nodesCounted s → All (Told strict E s) (nodeRows s v)
   node-told v h =
       short-told (a-node v h)
       and by-order inputByte (nodeAt s v) (byte-above v h) says
-      and all-nil (Told E s)
+      and all-nil (Told strict E s)
 
-  module-told : (m : ℕ) → m < modulesCounted s → All (Told E s) (moduleRows E s m)
+  module-told : (m : ℕ) → m < modulesCounted s → All (Told strict E s) (moduleRows E s m)
   module-told m h =
       short-told (a-module m h)
       and by-order (E .greatest) (moduleAt E s m .kind) (kind-above m h) says
@@ -125,85 +130,88 @@ module _ (E : Edition) (some : 0 < E .size) (s : List ℕ) where
       and tells-as (tells-miswired (nodesCounted s) (moduleAt E s m)) (wrong-wiring m h, says)
       and by-order longestDelay (moduleAt E s m .delay) (delay-above m h) says
       and tells-as (tells-earlier E s m h) (λ e. already-driven m h (e .0) (e .1) (e .2), λ c. of-this (Earlier E s) (modulePlace E s) (same-module E s some) m (says c))
-      and all-nil (Told E s)
+      and all-nil (Told strict E s)
 
-  start-told : (v : ℕ) → v < nodesCounted s → All (Told E s) (startRows E s v)
-  start-told v h = tells-as (tells-start E s v) (driven-or-not v h, says) and all-nil (Told E s)
+  start-told : (v : ℕ) → v < nodesCounted s → All (Told strict E s) (startRows E s v)
+  start-told v h = tells-as (tells-start E s v) (driven-or-not v h, says) and all-nil (Told strict E s)
 
-  event-told : (k : ℕ) → k < eventsCounted E s → All (Told E s) (eventRows E s k)
+  event-told : (k : ℕ) → k < eventsCounted E s → All (Told strict E s) (eventRows E s k)
   event-told k h =
       short-told (an-event k h)
       and by-order lastTick (eventAt E s k .tick) (tick-above k h) says
       and tells-as (tells-not (isInput (sheetOf E s) (eventAt E s k .node)) (tells-input (sheetOf E s) (eventAt E s k .node))) (not-an-input k h, says)
       and by-order lastValue (eventAt E s k .value) (value-above k h) says
       and tells-as (tells-event E s k) (not-above-before k h, λ c. of-this (NotAbove (λ k. key (eventAt E s k))) (eventPlace E s) (same-event E s) k (says c))
-      and all-nil (Told E s)
+      and all-nil (Told strict E s)
 
-  first-event-told : (v : ℕ) → All (Told E s) (firstEventRows E s v)
-  first-event-told v = tells-as (tells-first-event (sheetOf E s) v) (λ c. no-first-event v (c .0) (c .1), says) and all-nil (Told E s)
+  first-event-told : strict ≡ true → (v : ℕ) → All (Told strict E s) (firstEventRows E s v)
+  first-event-told is v = tells-as (tells-first-event (sheetOf E s) v) (λ c. no-first-event is v (c .0) (c .1), λ c. let h = says c in (h .1, h .2)) and all-nil (Told strict E s)
 
-  watched-told : (k : ℕ) → k < watchedCounted E s → All (Told E s) (watchedRows E s k)
+  first-events-told : All (Told strict E s) (firstEventsSection strict E s)
+  first-events-told = all-where strict (each (nodesCounted s) (firstEventRows E s)) (λ is. all-each (nodesCounted s) (firstEventRows E s) (λ v h. first-event-told is v))
+
+  watched-told : (k : ℕ) → k < watchedCounted E s → All (Told strict E s) (watchedRows E s k)
   watched-told k h =
       short-told (a-watched k h)
       and tells-as (tells-wrong-watched E s k) (wrong-watched k h, λ c. of-this (WrongWatched E s) (watchPlace E s) (same-watched E s) k (says c))
-      and all-nil (Told E s)
+      and all-nil (Told strict E s)
 
-  left-over-told : All (Told E s) (leftOverRows E s)
-  left-over-told = by-order (sheetEnd E s) (length s) left-over says and all-nil (Told E s)
+  left-over-told : All (Told strict E s) (leftOverRows E s)
+  left-over-told = by-order (sheetEnd E s) (length s) left-over says and all-nil (Told strict E s)
 
-  loop-told : (v : ℕ) → v < nodeCount (sheetOf E s) → All (Told E s) (loopRows (sheetOf E s) v)
-  loop-told v h = tells-as (loop-test (sheetOf E s) v h) (on-loop v, says) and all-nil (Told E s)
+  loop-told : (v : ℕ) → v < nodeCount (sheetOf E s) → All (Told strict E s) (loopRows (sheetOf E s) v)
+  loop-told v h = tells-as (loop-test (sheetOf E s) v h) (on-loop v, says) and all-nil (Told strict E s)
 
   -- front to back
-  rows-told : All (Told E s) (rows E s)
+  rows-told : All (Told strict E s) (rows strict E s)
   unfolding rows bytesRows
   rows-told =
       (count-told of-nodes then all-each (nodesCounted s) (nodeRows s) node-told)
       then (count-told of-modules then all-each (modulesCounted s) (moduleRows E s) module-told)
       then all-each (nodesCounted s) (startRows E s) start-told
       then (count-told of-drive then all-each (eventsCounted E s) (eventRows E s) event-told)
-      then all-each (nodesCounted s) (firstEventRows E s) (λ v h. first-event-told v)
+      then first-events-told
       then (count-told of-watched then all-each (watchedCounted E s) (watchedRows E s) watched-told)
       then left-over-told
       then all-each (nodeCount (sheetOf E s)) (loopRows (sheetOf E s)) loop-told
 
   -- A condition has its row: where it stands, whatever its test.
   abbrev Stands : ℕ → ℕ → Type 0
-  Stands n p = (b : Bool) × List·Memᴰ (n at p when b) (rows E s)
+  Stands n p = (b : Bool) × List·Memᴰ (n at p when b) (rows strict E s)
 
-  of-bytes : {n p : ℕ} {b : Bool} → List·Memᴰ (n at p when b) (bytesRows E s) → Stands n p
-  of-bytes {b} m = (b, in-bytes E s m)
+  of-bytes : {n p : ℕ} {b : Bool} → List·Memᴰ (n at p when b) (bytesRows strict E s) → Stands n p
+  of-bytes {b} m = (b, in-bytes strict E s m)
 
   short-stands : {p size : ℕ} → Part E s p size → Stands 2 p
-  short-stands (a-count c) = of-bytes (in-count E s c here)
-  short-stands (a-node v h) = of-bytes (in-node E s v h here)
-  short-stands (a-module m h) = of-bytes (in-module E s m h here)
-  short-stands (an-event e h) = of-bytes (in-event E s e h here)
-  short-stands (a-watched k h) = of-bytes (in-watched-node E s k h here)
+  short-stands (a-count c) = of-bytes (in-count strict E s c here)
+  short-stands (a-node v h) = of-bytes (in-node strict E s v h here)
+  short-stands (a-module m h) = of-bytes (in-module strict E s m h here)
+  short-stands (an-event e h) = of-bytes (in-event strict E s e h here)
+  short-stands (a-watched k h) = of-bytes (in-watched-node strict E s k h here)
 
-  stands : {n p : ℕ} → Condition E s n p → Stands n p
+  stands : {n p : ℕ} → ConditionBy strict E s n p → Stands n p
   stands (ends-inside part l) = short-stands part
-  stands (outside-range c o) = of-bytes (in-count E s c (later here))
-  stands (byte-above v h c) = of-bytes (in-node E s v h (later here))
-  stands (kind-above m h c) = of-bytes (in-module E s m h (later here))
-  stands (parameter-not-allowed m h c) = of-bytes (in-module E s m h (later (later here)))
-  stands (wrong-wiring m h c) = of-bytes (in-module E s m h (later (later (later here))))
-  stands (delay-above m h c) = of-bytes (in-module E s m h (later (later (later (later here)))))
-  stands (already-driven m h a l c) = of-bytes (in-module E s m h (later (later (later (later (later here))))))
-  stands (driven-or-not v h c) = of-bytes (in-start E s v h here)
-  stands (tick-above e h c) = of-bytes (in-event E s e h (later here))
-  stands (not-an-input e h c) = of-bytes (in-event E s e h (later (later here)))
-  stands (value-above e h c) = of-bytes (in-event E s e h (later (later (later here))))
-  stands (not-above-before e h c) = of-bytes (in-event E s e h (later (later (later (later here)))))
-  stands (no-first-event v i c) = of-bytes (in-first-event E s v (rw (node-count E s) at (i .node)) here)
-  stands (wrong-watched k h c) = of-bytes (in-watched-node E s k h (later here))
-  stands (left-over c) = of-bytes (in-left-over E s here)
-  stands (on-loop v c) = (_, in-loop E s v (loop-node (sheetOf E s) c) here)
+  stands (outside-range c o) = of-bytes (in-count strict E s c (later here))
+  stands (byte-above v h c) = of-bytes (in-node strict E s v h (later here))
+  stands (kind-above m h c) = of-bytes (in-module strict E s m h (later here))
+  stands (parameter-not-allowed m h c) = of-bytes (in-module strict E s m h (later (later here)))
+  stands (wrong-wiring m h c) = of-bytes (in-module strict E s m h (later (later (later here))))
+  stands (delay-above m h c) = of-bytes (in-module strict E s m h (later (later (later (later here)))))
+  stands (already-driven m h a l c) = of-bytes (in-module strict E s m h (later (later (later (later (later here))))))
+  stands (driven-or-not v h c) = of-bytes (in-start strict E s v h here)
+  stands (tick-above e h c) = of-bytes (in-event strict E s e h (later here))
+  stands (not-an-input e h c) = of-bytes (in-event strict E s e h (later (later here)))
+  stands (value-above e h c) = of-bytes (in-event strict E s e h (later (later (later here))))
+  stands (not-above-before e h c) = of-bytes (in-event strict E s e h (later (later (later (later here)))))
+  stands (no-first-event is v i c) = of-bytes (in-first-event strict E s is v (rw (node-count E s) at (i .node)) here)
+  stands (wrong-watched k h c) = of-bytes (in-watched-node strict E s k h (later here))
+  stands (left-over c) = of-bytes (in-left-over strict E s here)
+  stands (on-loop v c) = (_, in-loop strict E s v (loop-node (sheetOf E s) c) here)
 
 -- each row of the table: its test passes exactly when its condition is met
-pub row-tells : (E : Edition) → 0 < E .size → (s : List ℕ) (r : Row) → List·Memᴰ r (rows E s) → Tells (r .met) (Condition E s (r .number) (r .place))
+pub row-tells : (strict : Bool) (E : Edition) → 0 < E .size → (s : List ℕ) (r : Row) → List·Memᴰ r (rows strict E s) → Tells (r .met) (ConditionBy strict E s (r .number) (r .place))
 row-tells = rows-told
 
 -- a row that is met, with this number and place: exactly where the condition is met
-pub met-iff : (E : Edition) → 0 < E .size → (s : List ℕ) (n p : ℕ) → List·Memᴰ (n at p when true) (rows E s) ↔ Condition E s n p
-met-iff E some s n p = (λ m. row-tells E some s (n at p when true) m .0 refl, λ c. let row = stands E some s c in subst (λ b. List·Memᴰ (n at p when b) (rows E s)) (row-tells E some s (n at p when row .0) (row .1) .1 c) (row .1))
+pub met-iff : (strict : Bool) (E : Edition) → 0 < E .size → (s : List ℕ) (n p : ℕ) → List·Memᴰ (n at p when true) (rows strict E s) ↔ ConditionBy strict E s n p
+met-iff strict E some s n p = (λ m. row-tells strict E some s (n at p when true) m .0 refl, λ c. let row = stands strict E some s c in subst (λ b. List·Memᴰ (n at p when b) (rows strict E s)) (row-tells strict E some s (n at p when row .0) (row .1) .1 c) (row .1))

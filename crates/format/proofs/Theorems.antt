@@ -1,5 +1,5 @@
 -- The theorems of the format, each with the file that proves it. They assume nothing: they hold in each edition of all lists of numbers, or of all bytes where they say so.
-use mathlib.Core.Bool.{Bool, true, false}
+use mathlib.Core.Bool.{Bool, true, false, false≢true}
 use mathlib.Core.List.{List}
 use mathlib.Core.Logic.{_↔_, _⊎_}
 use mathlib.Core.Path.{_≡_, refl}
@@ -13,13 +13,15 @@ use Rattle.sheet.specs.Sheet.{Sheet, eventCount, eventOf}
 use Rattle.sheet.specs.Layout.{firstEdition, sheetOf}
 use Rattle.sheet.specs.Outcome.{finished, refused}
 use Rattle.sheet.specs.Loop.{LeastOnLoop}
-use Rattle.sheet.specs.Refusal.{bytesRows, first, checked}
+use Rattle.sheet.specs.Refusal.{bytesRows, first, checkedBy, checked, checkedStrictly}
 use Rattle.sheet.proofs.Parts.{node-count, module-count, event-count, watched-count}
-use Rattle.format.specs.Accepted.{Before, Accepted, Known, the-first, AcceptedIn}
+use Rattle.format.specs.Accepted.{Before, Accepted, Known, the-first, AcceptedIn, StrictlyAcceptedIn}
 use Rattle.format.specs.Encode.{encode, Bytes, Encodable, OneByteEach}
-use Rattle.format.specs.Condition.{Condition, FirstCondition}
-use Rattle.format.proofs.Checked.{answers, finished-iff, refused-first}
-use Rattle.format.proofs.Accepted.{some-size, accepted, conversely}
+use Rattle.format.specs.Condition.{ConditionBy, FirstConditionBy}
+use Rattle.format.proofs.Checked.{answers, finished-iff, refused-first, refused-met}
+use Rattle.format.proofs.Table.{strict-at-15}
+use Rattle.format.proofs.Accepted.{some-size, accepted, conversely, strictly, strictly-conversely}
+use Rattle.format.proofs.Strict.{same-or-15}
 use Rattle.format.proofs.Loop.{loop-refused}
 use Rattle.format.proofs.Order.{drive-order}
 use Rattle.format.proofs.Undriven.{fewer-modules}
@@ -27,24 +29,36 @@ use Rattle.format.proofs.EncodePlaces.{read-encode}
 use Rattle.format.proofs.EncodeRead.{reading-encoded, encodable, one-byte-each}
 use Rattle.format.proofs.EncodeBytes.{encode-bytes}
 
--- (a) Each refusal is given under its stated condition and under no other: a check refuses with the number and place of the first condition met,
+-- (a) Each refusal is given under its stated condition and under no other: a check, strict or not, refuses with the number and place of the first condition met,
 -- front to back, finishes where none is met, and answers nothing else.
-pub refusals : {E : Edition} → Known E → (s : List ℕ) (n p : ℕ) → (checked E s ≡ refused n p 0) ↔ FirstCondition E s n p
-refusals {E} known = refused-first E (some-size known)
+pub refusals : (strict : Bool) {E : Edition} → Known E → (s : List ℕ) (n p : ℕ) → (checkedBy strict E s ≡ refused n p 0) ↔ FirstConditionBy strict E s n p
+refusals strict {E} known = refused-first strict E (some-size known)
 
-pub no-refusal : {E : Edition} → Known E → (s : List ℕ) → (checked E s ≡ finished 0) ↔ ((n p : ℕ) → Condition E s n p → ⊥)
-no-refusal {E} known = finished-iff E (some-size known)
+pub no-refusal : (strict : Bool) {E : Edition} → Known E → (s : List ℕ) → (checkedBy strict E s ≡ finished 0) ↔ ((n p : ℕ) → ConditionBy strict E s n p → ⊥)
+no-refusal strict {E} known = finished-iff strict E (some-size known)
 
-pub no-other-answer : {E : Edition} → Known E → (s : List ℕ) → (checked E s ≡ finished 0) ⊎ ((n : ℕ) × (p : ℕ) × (2 ≤ n) × (n ≤ 18) × (checked E s ≡ refused n p 0))
-no-other-answer {E} known = answers E (some-size known)
+pub no-other-answer : (strict : Bool) {E : Edition} → Known E → (s : List ℕ) → (checkedBy strict E s ≡ finished 0) ⊎ ((n : ℕ) × (p : ℕ) × (2 ≤ n) × (n ≤ 18) × (checkedBy strict E s ≡ refused n p 0))
+no-other-answer strict {E} known = answers strict E (some-size known)
+
+-- Refusal 15 is a strict check's alone.
+pub never-15 : {E : Edition} → Known E → (s : List ℕ) (p : ℕ) → checked E s ≡ refused 15 p 0 → ⊥
+never-15 {E} known s p e = false≢true (strict-at-15 (refused-met false E (some-size known) s 15 p e))
 
 -- Refusal 18 names the least node on any zero-delay loop.
-pub zero-delay-loop : (E : Edition) (s : List ℕ) (v : ℕ) → (checked E s ≡ refused 18 v 0) ↔ ((first (bytesRows E s) ≡ finished 0) × LeastOnLoop (sheetOf E s) v)
+pub zero-delay-loop : (strict : Bool) (E : Edition) (s : List ℕ) (v : ℕ) → (checkedBy strict E s ≡ refused 18 v 0) ↔ ((first (bytesRows strict E s) ≡ finished 0) × LeastOnLoop (sheetOf E s) v)
 zero-delay-loop = loop-refused
 
--- (b) A check finishes exactly on the sheets that document 01 accepts.
+-- (b) A check finishes exactly on the sheets that document 01 accepts, with inputs that start unknown as document 02's W-203 has it.
 pub accepts : {E : Edition} → Known E → (s : List ℕ) → (checked E s ≡ finished 0) ↔ AcceptedIn E s
 accepts {E} known s = (accepted E known s, conversely E known s)
+
+-- A strict check finishes exactly on those of them whose inputs are all driven at tick 0.
+pub accepts-strictly : {E : Edition} → Known E → (s : List ℕ) → (checkedStrictly E s ≡ finished 0) ↔ StrictlyAcceptedIn E s
+accepts-strictly {E} known s = (strictly E known s, strictly-conversely E known s)
+
+-- On every sheet, accepted or not, a strict check answers what a check answers, or 15.
+pub strict-or-15 : (E : Edition) (s : List ℕ) → (checkedStrictly E s ≡ checked E s) ⊎ ((v : ℕ) × (checkedStrictly E s ≡ refused 15 v 0))
+strict-or-15 = same-or-15
 
 -- An accepted sheet's drive, which rises by key, rises by tick and then by node.
 pub drive-rises : (S : Sheet) → Accepted S → (a b : ℕ) → a < b → b < eventCount S → Before (eventOf S a) (eventOf S b)

@@ -1,5 +1,5 @@
 -- What holds of a sheet that a check does not refuse, whatever the order in which it is read:
--- all that document 01's refusals 2 to 18 rule out.
+-- all that document 01's refusals 2 to 18 rule out, 15 in a strict check alone, as document 02's W-203 has it.
 use mathlib.Core.List.{List, List·Memᴰ}
 use mathlib.Core.Logic.{_⊎_}
 use mathlib.Core.Path.{_≡_}
@@ -46,13 +46,6 @@ pub record SoundEvent (S : Sheet) (e : Event) : Type 0 where
 abbrev pub Before : Event → Event → Type 0
 Before a b = (a .tick < b .tick) ⊎ ((a .tick ≡ b .tick) × (a .node < b .node))
 
--- an event at tick 0 drives the node
-pub record DrivenAtStart (S : Sheet) (v : ℕ) : Type 0 where
-  pub event : ℕ
-  pub listed : event < eventCount S
-  pub tick : eventOf S event .tick ≡ 0
-  pub node : eventOf S event .node ≡ v
-
 pub record Accepted (S : Sheet) : Type 0 where
   -- the counts' ranges
   pub some-node : leastNodes ≤ nodeCount S
@@ -70,9 +63,8 @@ pub record Accepted (S : Sheet) : Type 0 where
   -- driven nodes have an initial value, and inputs have 4
   pub initial-values : (v : ℕ) → v < nodeCount S → Driven S v → nodeByte S v ≤ lastValue
   pub inputs : (v : ℕ) → Input S v → nodeByte S v ≡ inputByte
-  -- the drive rises strictly by tick and then by node; every input is driven at tick 0
+  -- the drive rises strictly by tick and then by node
   pub drive-rises : (a b : ℕ) → a < b → b < eventCount S → key (eventOf S a) < key (eventOf S b)
-  pub driven-at-start : (v : ℕ) → Input S v → DrivenAtStart S v
   -- the watched nodes rise
   pub watched-rise : (a b : ℕ) → a < b → b < watchedCount S → watchedNode S a < watchedNode S b
   -- no zero-delay loop
@@ -88,3 +80,15 @@ pub record AcceptedIn (e : Edition) (s : List ℕ) : Type 0 where
   pub sheet : Accepted (sheetOf e s)
   pub kinds : (m : ℕ) → m < moduleCount (sheetOf e s) → moduleOf (sheetOf e s) m .kind ≤ e .greatest
   pub whole : length s ≡ sheetEnd e s
+
+-- an event at tick 0 drives the node
+pub record DrivenAtStart (S : Sheet) (v : ℕ) : Type 0 where
+  pub event : ℕ
+  pub listed : event < eventCount S
+  pub tick : eventOf S event .tick ≡ 0
+  pub node : eventOf S event .node ≡ v
+
+-- Bytes that a strict check does not refuse either: every input is driven at tick 0 as well.
+pub record StrictlyAcceptedIn (e : Edition) (s : List ℕ) : Type 0 where
+  pub accepted : AcceptedIn e s
+  pub driven-at-start : (v : ℕ) → Input (sheetOf e s) v → DrivenAtStart (sheetOf e s) v

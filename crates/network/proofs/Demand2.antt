@@ -1,5 +1,6 @@
 -- The mission, demand 2, whole: for any set of timelines that satisfies the sheet, what a run answers and writes is what these timelines give. Such a set
 -- exists wherever a run begins. Assumes nothing.
+use mathlib.Core.Bool.{false}
 use mathlib.Core.List.{List}
 use mathlib.Core.Logic.{_↔_}
 use mathlib.Core.Path.{_≡_, refl, sym, subst}
@@ -21,7 +22,7 @@ use Rattle.network.proofs.Runs.{own-cells}
 
 module _ {E : Edition} (known : Known E) (s : List ℕ) (horizon : ℕ) where
   pub sheet-accepted : Begins E s horizon → Accepted (sheetOf E s)
-  sheet-accepted b = accepted E known s (no-refusal known s .1 (b .none-met)) .sheet
+  sheet-accepted b = accepted E known s (no-refusal false known s .1 (b .none-met)) .sheet
 
   pub demand-2 : (bytes : ℕ) (c : Cells) → (Begins E s horizon → Satisfied (sheetOf E s) horizon c) → RunOf E s horizon bytes c
   demand-2 bytes c satisfied =

@@ -8,7 +8,7 @@ use native.Mathlib.Omega.{arith}
 use Prim.Native.Nat.{ℕ, _<_, _≤_}
 use Rattle.sheet.specs.Layout.{sheetOf}
 use Rattle.sheet.specs.Outcome.{Outcome, finished}
-use Rattle.sheet.specs.Refusal.{checked}
+use Rattle.sheet.specs.Refusal.{checked, checkedStrictly}
 use Rattle.sheet.specs.Sheet.{Sheet, moduleCount, moduleOf, nodeCount}
 use Rattle.sheet.specs.WorkingOrder.{workingOrder}
 use Rattle.sheet.specs.declared.Edition.{Edition}
@@ -22,7 +22,7 @@ use Rattle.network.specs.Buffer.{bufferAfter}
 use Rattle.network.specs.Run.{RunLeaves, horizonOutside, ran, writtenOf}
 use Rattle.network.specs.Timeline.{Cells, at}
 use Rattle.network.specs.Working.{worked}
-use Rattle.format.proofs.Accepted.{accepted, conversely}
+use Rattle.format.proofs.Accepted.{accepted, conversely, strictly, strictly-conversely}
 use Rattle.format.proofs.EncodeBytes.{encode-bytes}
 use Rattle.format.proofs.EncodePlaces.{encode-whole, read-encode}
 use Rattle.network.proofs.Answers.{same-answer, whole-listing}
@@ -32,7 +32,7 @@ use Rattle.network.proofs.PendingCount.{pending-renumbered}
 use Rattle.network.proofs.Permuting.{to-once}
 use Rattle.network.proofs.PullBack.{pull-back}
 use Rattle.network.proofs.Renumbered.{module-count-renumbered, module-of-renumbered}
-use Rattle.network.proofs.RenumberedAccepted.{accepted-renumbered}
+use Rattle.network.proofs.RenumberedAccepted.{accepted-renumbered, started}
 use Rattle.network.proofs.RenumberedListing.{Rewatched, renumbered-length, renumbered-listing}
 use Rattle.network.proofs.Runs.{accepted-run, in-range, only, ran-satisfied, ran-sheet, satisfied}
 use Rattle.network.proofs.Wired.{wired}
@@ -114,6 +114,12 @@ module _ {E : Edition} (known : Known E) (s : List ℕ) (ok : AcceptedIn E s) (�
 
   pub checked-renumbered : checked E p ≡ finished 0
   checked-renumbered = conversely E known p accepted-bytes
+
+  -- a strict check accepts P as well where it accepts N
+  pub strictly-renumbered : checkedStrictly E s ≡ finished 0 → checkedStrictly E p ≡ finished 0
+  strictly-renumbered e =
+      strictly-conversely E known p
+      (record { accepted = accepted-bytes; driven-at-start = rw sheet-renumbered (started (sheetOf E s) (ok .sheet) π order each-once (strictly E known s e .driven-at-start)) })
 
 pub demand-3 : {E : Edition} → Known E → (s : List ℕ) (horizon bytes : ℕ) → RunsToHorizon E s horizon bytes
     → (π : Permutation (nodeCount (sheetOf E s))) (order : List ℕ) → Listed (moduleCount (sheetOf E s)) order

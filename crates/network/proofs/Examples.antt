@@ -1,4 +1,4 @@
--- The starred examples of document 01, as one table, and its worked run whole. Assumes nothing.
+-- The starred examples of document 01, as one table with those of inputs that start unknown, and whole runs of both. Assumes nothing.
 use lib.ListN.{length, replicate}
 use mathlib.Core.List.{[], _∷_}
 use mathlib.Core.Path.{_≡_, refl}
@@ -8,11 +8,11 @@ use Rattle.sheet.specs.Enumerate.{anyBelow, each}
 use Rattle.sheet.specs.Layout.{firstEdition, sheetOf}
 use Rattle.sheet.specs.Loop.{leadsOver}
 use Rattle.sheet.specs.Outcome.{finished, refused}
-use Rattle.sheet.specs.Refusal.{notAboveEvent, notAboveWatched, bytesRows, rows, first, checked}
+use Rattle.sheet.specs.Refusal.{notAboveEvent, notAboveWatched, bytesRows, rows, first, checkedBy, checked, checkedStrictly}
 use Rattle.sheet.specs.WorkingOrder.{leadingTo, workingOrder}
 use Rattle.format.specs.Encode.{allBytes}
 use Rattle.network.specs.Buffer.{bufferAfter}
-use Rattle.network.specs.Examples.{workedSheet, memorySheet, examples}
+use Rattle.network.specs.Examples.{workedSheet, memorySheet, startSheet, examples}
 use Rattle.network.specs.LaterEvents.{eventsBelow}
 use Rattle.network.specs.Listing.{recordsAt, Record}
 use Rattle.network.specs.Run.{wrote, firstTick, writtenOf, ran}
@@ -26,7 +26,7 @@ examples-hold = computed _ tt
 
 -- both sheets are accepted
 pub accepted-examples : (checked firstEdition workedSheet ≡ finished 0) × (checked firstEdition memorySheet ≡ finished 0)
-unfolding sheetOf checked rows bytesRows first notAboveEvent notAboveWatched leadsOver anyBelow each
+unfolding sheetOf checkedBy rows bytesRows first notAboveEvent notAboveWatched leadsOver anyBelow each
 accepted-examples = (refl, refl)
 
 abbrev listed : ℕ → ℕ → ℕ → Record
@@ -34,12 +34,12 @@ listed t v x = record { tick = t; node = v; value = x }
 
 -- the worked run, from its bytes: a buffer of 36 bytes takes its six records
 pub worked-run : ran firstEdition workedSheet 12 36 ≡ wrote (finished 6) (listed 0 0 0 ∷ listed 0 1 2 ∷ listed 3 1 1 ∷ listed 5 0 1 ∷ listed 8 1 0 ∷ listed 11 1 1 ∷ [])
-unfolding sheetOf checked rows bytesRows first notAboveEvent notAboveWatched workingOrder leadingTo leadsOver anyBelow each given driveCell latest unworked work workAll worked recordsAt firstTick writtenOf ran
+unfolding sheetOf checkedBy rows bytesRows first notAboveEvent notAboveWatched workingOrder leadingTo leadsOver anyBelow each given driveCell latest unworked work workAll worked recordsAt firstTick writtenOf ran
 worked-run = refl
 
 -- 35 give refusal 19 at tick 11 with 5 records
 pub short-run : ran firstEdition workedSheet 12 35 ≡ wrote (refused 19 11 5) (listed 0 0 0 ∷ listed 0 1 2 ∷ listed 3 1 1 ∷ listed 5 0 1 ∷ listed 8 1 0 ∷ [])
-unfolding sheetOf checked rows bytesRows first notAboveEvent notAboveWatched workingOrder leadingTo leadsOver anyBelow each given driveCell latest unworked work workAll worked recordsAt firstTick writtenOf ran
+unfolding sheetOf checkedBy rows bytesRows first notAboveEvent notAboveWatched workingOrder leadingTo leadsOver anyBelow each given driveCell latest unworked work workAll worked recordsAt firstTick writtenOf ran
 short-run = refl
 
 -- and in a buffer of 38 bytes, each 99 before, the six records' bytes stand first and the last two bytes stay
@@ -51,10 +51,21 @@ pub worked-buffer : bufferAfter (ran firstEdition workedSheet 12 38 .records) (r
     ∷ 8 ∷ 0 ∷ 0 ∷ 0 ∷ 1 ∷ 0
     ∷ 11 ∷ 0 ∷ 0 ∷ 0 ∷ 1 ∷ 1
     ∷ 99 ∷ 99 ∷ []
-unfolding sheetOf checked rows bytesRows first notAboveEvent notAboveWatched workingOrder leadingTo leadsOver anyBelow each given driveCell latest unworked work workAll worked recordsAt firstTick writtenOf ran bufferAfter allBytes
+unfolding sheetOf checkedBy rows bytesRows first notAboveEvent notAboveWatched workingOrder leadingTo leadsOver anyBelow each given driveCell latest unworked work workAll worked recordsAt firstTick writtenOf ran bufferAfter allBytes
 worked-buffer = refl
 
--- of its two events, at ticks 0 and 5, one is below horizon 5, and both are below horizon 6
+-- inputs that start unknown: a check accepts them, a strict check does not, and a run lists them as X
+pub start-checked : (checked firstEdition startSheet ≡ finished 0) × (checkedStrictly firstEdition startSheet ≡ refused 15 0 0)
+unfolding sheetOf checkedBy rows bytesRows first notAboveEvent notAboveWatched leadsOver anyBelow each
+start-checked = (refl, refl)
+
+pub start-run : ran firstEdition startSheet 6 72
+    ≡ wrote (finished 12)
+    (listed 0 0 2 ∷ listed 0 1 2 ∷ listed 0 2 0 ∷ listed 0 3 3 ∷ listed 0 4 1 ∷ listed 1 3 0 ∷ listed 2 2 1 ∷ listed 2 4 2 ∷ listed 3 1 1 ∷ listed 3 3 1 ∷ listed 4 2 0 ∷ listed 4 4 1 ∷ [])
+unfolding sheetOf checkedBy rows bytesRows first notAboveEvent notAboveWatched workingOrder leadingTo leadsOver anyBelow each given driveCell latest unworked work workAll worked recordsAt firstTick writtenOf ran
+start-run = refl
+
+-- of the worked run's two events, at ticks 0 and 5, one is below horizon 5, and both are below horizon 6
 pub events-below : (length (eventsBelow 5 (sheetOf firstEdition workedSheet .drive)) ≡ 1) × (length (eventsBelow 6 (sheetOf firstEdition workedSheet .drive)) ≡ 2)
 unfolding sheetOf eventsBelow each
 events-below = (refl, refl)

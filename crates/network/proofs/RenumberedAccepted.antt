@@ -56,17 +56,6 @@ module _ (S : Sheet) (acc : Accepted S) (π : Permutation (nodeCount S)) (order 
       let same = to-once π _ _ (acc .sound-modules _ m .output) (acc .sound-modules _ n .output) (sym (output a h) ∙ e ∙ output b l) in
       each-once .once a b h l (acc .one-driver _ _ m n same)
 
-  started : (w : ℕ) → w < nodeCount S → Input P w → DrivenAtStart P w
-  started w l i =
-      let d = acc .driven-at-start (π .from w) (input-from S acc π order each-once w l .0 i) in
-      let e = event-there S π order each-once (d .event) (d .listed) in
-      record {
-        event = e .0;
-        listed = e .1;
-        tick = ap (λ e. e .tick) (sym (e .2)) ∙ d .tick;
-        node = ap (λ e. e .node) (sym (e .2)) ∙ ap (π .to) (d .node) ∙ π .to-from w l;
-      }
-
   pub accepted-renumbered : Accepted P
   accepted-renumbered =
       record {
@@ -83,7 +72,19 @@ module _ (S : Sheet) (acc : Accepted S) (π : Permutation (nodeCount S)) (order 
         initial-values = λ w h d. let l = node w h in omega (arith, acc .initial-values (π .from w) (π .from-below w l) (driven-from S acc π order each-once w l .0 d), node-byte w l);
         inputs = λ w i. let l = node w (i .node) in node-byte w l ∙ acc .inputs (π .from w) (input-from S acc π order each-once w l .0 i);
         drive-rises = drive-rises S acc π order;
-        driven-at-start = λ w i. started w (node w (i .node)) i;
         watched-rise = watched-rise S acc π order;
         no-loop = no-loop S acc π order each-once;
+      }
+
+  -- driven at tick 0, where all inputs are
+  pub started : ((v : ℕ) → Input S v → DrivenAtStart S v) → (w : ℕ) → Input P w → DrivenAtStart P w
+  started first w i =
+      let l = node w (i .node) in
+      let d = first (π .from w) (input-from S acc π order each-once w l .0 i) in
+      let e = event-there S π order each-once (d .event) (d .listed) in
+      record {
+        event = e .0;
+        listed = e .1;
+        tick = ap (λ e. e .tick) (sym (e .2)) ∙ d .tick;
+        node = ap (λ e. e .node) (sym (e .2)) ∙ ap (π .to) (d .node) ∙ π .to-from w l;
       }

@@ -2,7 +2,7 @@
 -- any set of timelines that satisfies the sheet. Assumes nothing.
 use lib.ListN.{length}
 use borrow.Author.Tests.{eq-eqb, ne-eqb, lt-ltb, le-ltb}
-use mathlib.Core.Bool.{false}
+use mathlib.Core.Bool.{false, false≢true}
 use mathlib.Core.List.{List}
 use mathlib.Core.Logic.{_↔_, _⊎_, inl, inr, ⊎-elim}
 use mathlib.Core.Path.{_≡_, refl, sym, ap, _∙_, subst}
@@ -17,7 +17,9 @@ use Rattle.sheet.specs.Refusal.{checked}
 use Rattle.sheet.specs.Sheet.{Sheet}
 use Rattle.sheet.specs.declared.Edition.{Edition}
 use Rattle.format.specs.Accepted.{Known}
+use Rattle.format.specs.Condition.{Condition}
 use Rattle.format.proofs.Accepted.{accepted}
+use Rattle.format.proofs.Table.{strict-at-15}
 use Rattle.format.proofs.Theorems.{refusals, no-refusal}
 use Rattle.network.specs.Buffer.{room}
 use Rattle.network.specs.Listing.{Record, listing, pending}
@@ -38,13 +40,13 @@ module _ {E : Edition} (known : Known E) (s : List ℕ) (horizon bytes : ℕ) (c
 
   begun : Begins E s horizon → ran E s horizon bytes ≡ writtenOf S cells horizon bytes
   begun b =
-      let e : checked E s ≡ finished 0 = no-refusal known s .1 (b .none-met) in
+      let e : checked E s ≡ finished 0 = no-refusal false known s .1 (b .none-met) in
       ran-sheet E s horizon bytes (in-range (b .some-tick) (b .few-ticks)) e ∙ ran-satisfied S (accepted E known s e .sheet) horizon cells (satisfied b) bytes
 
   writes : (w : Written) → RunCondition E s cells horizon bytes w → ran E s horizon bytes ≡ w
   writes w (horizon-outside (inl e)) = ran-outside E s horizon bytes (rw (eq-eqb horizon 0 e))
   writes w (horizon-outside (inr h)) = ran-outside E s horizon bytes (rw (ne-eqb horizon 0 (λ e. omega (arith, h, e)), lt-ltb greatestHorizon horizon h))
-  writes w (sheet-refused {n} {p} some few r) = ran-refused E s horizon bytes (in-range some few) (refusals known s n p .1 r)
+  writes w (sheet-refused {n} {p} some few r) = ran-refused E s horizon bytes (in-range some few) (refusals false known s n p .1 r)
   writes w (no-room t f over) = begun (f .begins) ∙ outcome.full S cells horizon bytes t (f .below) (f .passed) over
   writes w (crowded t f fits over) = begun (f .begins) ∙ outcome.crowded S cells horizon bytes t (f .below) (f .passed) fits over
   writes w (whole b all) = begun b ∙ outcome.whole S cells horizon bytes all
@@ -87,11 +89,11 @@ module _ {E : Edition} (known : Known E) (s : List ℕ) (horizon bytes : ℕ) (c
       by-horizon : Dec (horizon ≡ 0) → Dec (horizon ≤ greatestHorizon) → (w : Written) × RunCondition E s cells horizon bytes w
       by-horizon (yes e) q = (_, horizon-outside (inl e))
       by-horizon (no d) (no f) = (_, horizon-outside (inr (omega arith)))
-      by-horizon (no d) (yes f) = ⊎-elim begins (λ r. (_, sheet-refused (omega arith) f (refusals known s (r .0) (r .1) .0 (r .2)))) (checks E s)
+      by-horizon (no d) (yes f) = ⊎-elim begins (λ r. (_, sheet-refused (omega arith) f (refusals false known s (r .0) (r .1) .0 (r .2)))) (checks E s)
         where
           begins : checked E s ≡ finished 0 → (w : Written) × RunCondition E s cells horizon bytes w
           begins e =
-              let b : Begins E s horizon = record { some-tick = omega arith; few-ticks = f; none-met = no-refusal known s .0 e } in
+              let b : Begins E s horizon = record { some-tick = omega arith; few-ticks = f; none-met = no-refusal false known s .0 e } in
               ⊎-elim (λ all. (_, whole b all)) (λ w. w) (ticks b horizon (omega arith))
 
   -- The answer and the records of a run are those whose condition is met, and no other condition is.
@@ -116,3 +118,13 @@ module _ {E : Edition} {s : List ℕ} {c : Cells} {horizon bytes : ℕ} where
   finished-run w (no-room t f o) count e = absurd (finished≢refused (sym e))
   finished-run w (crowded t f r p) count e = absurd (finished≢refused (sym e))
   finished-run w (whole b all) count e = record { begins = b; passes = all; listed = refl; counted = sym (count-of e) }
+
+  -- no run answers 15
+  pub never-15 : (w : Written) → RunCondition E s c horizon bytes w → (place count : ℕ) → w .answer ≡ refused 15 place count → ⊥
+  never-15 w (horizon-outside h) place count e = let n : _≡_ {A = ℕ} 1 15 = cc in omega arith
+  never-15 w (sheet-refused {n} {p} h k r) place count e =
+      let is : n ≡ 15 = cc in
+      false≢true (strict-at-15 (subst (λ n. Condition E s n p) is (r .met)))
+  never-15 w (no-room t f o) place count e = let n : _≡_ {A = ℕ} 19 15 = cc in omega arith
+  never-15 w (crowded t f r p) place count e = let n : _≡_ {A = ℕ} 20 15 = cc in omega arith
+  never-15 w (whole b all) place count e = absurd (finished≢refused e)

@@ -8,7 +8,7 @@ use Prim.Native.Nat.{ℕ}
 use Rattle.level.specs.Choice.{if_then_else_}
 use Rattle.sheet.specs.Layout.{sheetOf}
 use Rattle.sheet.specs.Outcome.{finished, refused}
-use Rattle.sheet.specs.Refusal.{checked, rows}
+use Rattle.sheet.specs.Refusal.{rows, checkedBy, checked}
 use Rattle.sheet.specs.Sheet.{Sheet}
 use Rattle.sheet.specs.WorkingOrder.{workingOrder}
 use Rattle.sheet.specs.declared.Edition.{Edition}
@@ -47,8 +47,8 @@ module _ (E : Edition) (s : List ℕ) (horizon bytes : ℕ) where
 
 -- a check accepts, or refuses with a number and a place
 pub checks : (E : Edition) (s : List ℕ) → (checked E s ≡ finished 0) ⊎ ((n : ℕ) × (p : ℕ) × (checked E s ≡ refused n p 0))
-unfolding checked
-checks E s = first-answers (rows E s)
+unfolding checkedBy
+checks E s = first-answers (rows false E s)
 
 module _ (E : Edition) (s : List ℕ) (horizon bytes : ℕ) (runs : RunsToHorizon E s horizon bytes) where
   -- the horizon and the check were passed

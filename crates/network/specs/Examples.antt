@@ -1,4 +1,5 @@
--- Document 01, "Examples": the cells marked * to be proved, which join the gates' in one table.
+-- Document 01, "Examples": the cells marked * to be proved, which join the gates' in one table, and those of inputs that start unknown,
+-- as document 02's W-203 has it.
 use mathlib.Core.List.{List, [], _∷_, _++_}
 use Prim.Native.Nat.{ℕ}
 use Rattle.level.specs.Level.{low, high, unknown}
@@ -31,6 +32,28 @@ cellExamples =
     ∷ is (cellsOf (sheetOf firstEdition memorySheet) 6 5 2) high
     ∷ []
 
+-- Node 0 is an input that nothing drives, node 1 one whose first event comes at tick 3, node 2 one that begins at tick 0.
+-- A memory with set {X} and delay 1 drives node 3 from node 2 as long as node 1 is X, and a NAND of delay 0 node 4 from nodes 0 and 2.
+abbrev pub startSheet : List ℕ
+startSheet =
+    5 ∷ 0 ∷ 4 ∷ 4 ∷ 4 ∷ 3 ∷ 2
+    ∷ 2 ∷ 0 ∷ 9 ∷ 4 ∷ 3 ∷ 2 ∷ 1 ∷ 1 ∷ 0 ∷ 6 ∷ 0 ∷ 4 ∷ 0 ∷ 2 ∷ 0 ∷ 0
+    ∷ 4 ∷ 0 ∷ 0 ∷ 0 ∷ 0 ∷ 0 ∷ 2 ∷ 0 ∷ 2 ∷ 0 ∷ 0 ∷ 0 ∷ 2 ∷ 1 ∷ 3 ∷ 0 ∷ 0 ∷ 0 ∷ 1 ∷ 1 ∷ 4 ∷ 0 ∷ 0 ∷ 0 ∷ 2 ∷ 0
+    ∷ 5 ∷ 0 ∷ 0 ∷ 1 ∷ 2 ∷ 3 ∷ 4 ∷ []
+
+-- X throughout; X until the first event; the memory sees that X; the NAND's other input decides, or not
+abbrev pub startExamples : List Example
+startExamples =
+    is (cellsOf (sheetOf firstEdition startSheet) 6 0 0) unknown
+    ∷ is (cellsOf (sheetOf firstEdition startSheet) 6 5 0) unknown
+    ∷ is (cellsOf (sheetOf firstEdition startSheet) 6 2 1) unknown
+    ∷ is (cellsOf (sheetOf firstEdition startSheet) 6 3 1) high
+    ∷ is (cellsOf (sheetOf firstEdition startSheet) 6 1 3) low
+    ∷ is (cellsOf (sheetOf firstEdition startSheet) 6 5 3) high
+    ∷ is (cellsOf (sheetOf firstEdition startSheet) 6 1 4) high
+    ∷ is (cellsOf (sheetOf firstEdition startSheet) 6 3 4) unknown
+    ∷ []
+
 -- the one table
 abbrev pub examples : List Example
-examples = gateExamples ++ cellExamples
+examples = gateExamples ++ cellExamples ++ startExamples

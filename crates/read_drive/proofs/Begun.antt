@@ -1,6 +1,6 @@
 -- The flags of nodes that have begun stand for the modules and the events passed. Assumes nothing.
 use borrow.Author.Tests.{lt-ltb}
-use mathlib.Core.Bool.{Bool, true, false, _&&_, _||_, not, or-false}
+use mathlib.Core.Bool.{Bool, true, false, _&&_, _||_, not, or-false, false≢true}
 use mathlib.Core.List.{List, [], _∷_}
 use mathlib.Core.Path.{_≡_, refl, sym, ap, _∙_}
 use native.Mathlib.Numerals.{add-one}
@@ -14,13 +14,14 @@ use Rattle.sheet.specs.declared.Event.{Event}
 use Rattle.sheet.specs.Enumerate.{anyBelow, each}
 use Rattle.sheet.specs.Flags.{Flags}
 use Rattle.sheet.specs.Layout.{nodesCounted, eventsCounted, eventAt, sheetOf}
-use Rattle.sheet.specs.Refusal.{_at_when_, firstEventRows}
+use Rattle.sheet.specs.Outcome.{finished}
+use Rattle.sheet.specs.Refusal.{_at_when_, first, firstEventRows, firstEventsSection}
 use Rattle.sheet.specs.Sheet.{Sheet, nodeCount, eventOf}
 use Rattle.sheet.specs.Wiring.{isDriven, isInput, startedBy, drivenAtStart}
 use Rattle.sheet.proofs.Each.{each-same}
 use Rattle.sheet.proofs.Parts.{node-count, event-count, event-of}
 use Rattle.read_nodes.proofs.Flags.{flag-more}
-use Rattle.read_drive.specs.Begun.{begunBy, unbegunRows}
+use Rattle.read_drive.specs.Begun.{begunBy, unbegunRows, unbegunSection}
 
 -- a module drives the node, or one of the first k events does at tick 0
 abbrev pub begunIn : Sheet → ℕ → ℕ → Bool
@@ -33,6 +34,16 @@ or-assoc false b c = refl
 not-or : (a b : Bool) → not (a || b) ≡ (not a && not b)
 not-or true b = refl
 not-or false b = refl
+
+-- a check that is not strict asks for no first event, and a strict one for each
+pub none-asked : (strict : Bool) (nodes : ℕ) (flags : List Bool) → not strict ≡ true → finished 0 ≡ first (unbegunSection strict nodes flags)
+unfolding first
+none-asked true nodes flags is = absurd (false≢true is)
+none-asked false nodes flags is = refl
+
+pub all-asked : (strict : Bool) (nodes : ℕ) (flags : List Bool) → not strict ≡ false → each nodes (unbegunRows flags) ≡ unbegunSection strict nodes flags
+all-asked true nodes flags is = refl
+all-asked false nodes flags is = absurd (false≢true (sym is))
 
 pub begun-length : (event : Event) (flags : List Bool) → length (begunBy event flags) ≡ length flags
 begun-length event flags = go (eqb (event .tick) 0)
@@ -57,10 +68,11 @@ module _ (e : Edition) (s : List ℕ) (k : ℕ) (flags : List Bool) (before : Fl
       go false = before v b ∙ sym (or-false (begunIn (sheetOf e s) k v))
 
 -- once all events are passed, the flags decide the rows after the drive
-pub first-rows : (e : Edition) (s : List ℕ) (flags : List Bool) {k nodes : ℕ} → Flags flags (begunIn (sheetOf e s) k) → k ≡ eventsCounted e s → nodes ≡ nodesCounted s → nodes ≤ 256
-    → each nodes (unbegunRows flags) ≡ each (nodesCounted s) (firstEventRows e s)
-first-rows e s flags {k} known all counted few =
-    rw counted (each-same (nodesCounted s) (unbegunRows flags) (firstEventRows e s) (λ v h. ap (λ b. (15 at v when b) ∷ []) (same v h)))
+pub first-rows : (strict : Bool) (e : Edition) (s : List ℕ) (flags : List Bool) {k nodes : ℕ} → Flags flags (begunIn (sheetOf e s) k) → k ≡ eventsCounted e s → nodes ≡ nodesCounted s → nodes ≤ 256
+    → unbegunSection strict nodes flags ≡ firstEventsSection strict e s
+first-rows strict e s flags {k} known all counted few =
+    ap (λ rows. if strict then rows else [])
+    (rw counted (each-same (nodesCounted s) (unbegunRows flags) (firstEventRows e s) (λ v h. ap (λ b. (15 at v when b) ∷ []) (same v h))))
   where
     S : Sheet
     S = sheetOf e s

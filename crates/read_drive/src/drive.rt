@@ -21,7 +21,7 @@ ghost use Rattle.sheet.specs.Flags.{Flags};
 ghost use Rattle.sheet.specs.Layout.{nodesCounted, drivePlace, eventsCounted, eventAt, sheetOf};
 ghost use Rattle.sheet.specs.Limits.{mostEvents, mostNodes};
 ghost use Rattle.sheet.specs.Outcome.{outcomeOf};
-ghost use Rattle.sheet.specs.Sections.{rowsOf, SectionRead};
+ghost use Rattle.sheet.specs.Sections.{rowsOfDrive, SectionRead};
 ghost use Rattle.sheet.specs.Sheet.{noEvent};
 ghost use Rattle.sheet.specs.Wiring.{isDriven};
 
@@ -43,8 +43,9 @@ fn no_drive(answer: Answer) -> DriveRead
     }
 }
 
-// The section, which stands at a place, and the inputs' first events after it.
+// The section, which stands at a place, and after it, in a strict check, the inputs' first events.
 pub fn drive_section(
+    strict: bool,
     e: Edition,
     s: &[u8],
     place: u32,
@@ -53,7 +54,7 @@ pub fn drive_section(
 ) -> DriveRead
     requires { ⌜ (place ≡ drivePlace e (now s)) × (place ≤ 100000) × (nodes ≡ nodesCounted (now s)) × (nodes ≤ mostNodes)
         × Flags (now driven) (isDriven (sheetOf e (now s))) ⌝ }
-    ensures { λ r. ⌜ SectionRead (rowsOf e (now (s .entry)) 2) mostEvents noEvent (eventsCounted e (now (s .entry)))
+    ensures { λ r. ⌜ SectionRead (rowsOfDrive strict e (now (s .entry))) mostEvents noEvent (eventsCounted e (now (s .entry)))
         (eventAt e (now (s .entry))) (outcomeOf (r .answer)) (r .count) (r .drive) ⌝ }
 {
     let checked = count_refusal(s, place, 0, MOST_EVENTS);
@@ -81,7 +82,7 @@ pub fn drive_section(
             }
         }
     }
-    let b = first_events(nodes, &begun);
+    let b = first_events(strict, nodes, &begun);
     let Answer::Ran(_) = b else {
         return no_drive(b);
     };

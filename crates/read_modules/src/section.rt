@@ -17,7 +17,7 @@ ghost use Rattle.sheet.specs.Enumerate.{listed};
 ghost use Rattle.sheet.specs.Layout.{nodesCounted, nodeAt, modulesPlace};
 ghost use Rattle.sheet.specs.Limits.{mostNodes};
 ghost use Rattle.sheet.specs.Refusal.{modulesSection};
-ghost use Rattle.sheet.specs.Sections.{rowsOf};
+ghost use Rattle.sheet.specs.Sections.{rowsOfModules};
 ghost use Rattle.read_modules.specs.Read.{noneRead, ModulesKnown};
 
 // What reading the section gives.
@@ -92,7 +92,7 @@ pub fn modules_section(
 ) -> ModulesRead
     requires { ⌜ (place ≡ modulesPlace (now s)) × (count ≡ nodesCounted (now s)) × (count ≤ mostNodes)
         × (now nodes ≡ filled mostNodes 0 (listed (nodesCounted (now s)) (nodeAt (now s)))) ⌝ }
-    ensures { λ r. ⌜ ModulesKnown e (now (s .entry)) (rowsOf e (now (s .entry)) 1) r ⌝ }
+    ensures { λ r. ⌜ ModulesKnown e (now (s .entry)) (rowsOfModules e (now (s .entry))) r ⌝ }
 {
     let read = module_records(e, s, place, count);
     let a = read.answer;

@@ -13,7 +13,7 @@ ghost use lib.ListN.{replicate};
 ghost use Rattle.sheet.specs.Layout.{nodesCounted, watchedPlace, watchedCounted, watchedAt};
 ghost use Rattle.sheet.specs.Limits.{mostWatched};
 ghost use Rattle.sheet.specs.Outcome.{outcomeOf};
-ghost use Rattle.sheet.specs.Sections.{rowsOf, SectionRead};
+ghost use Rattle.sheet.specs.Sections.{rowsOfWatched, SectionRead};
 ghost use Rattle.read_nodes.specs.Told.{WatchedTold};
 
 // What is read of the section: the refusal met in it, Ran(0) without one, and then its watched nodes.
@@ -53,7 +53,7 @@ fn watched_checked(s: &[u8], at: u32, nodes: u16, least: u16) -> NodeChecked
 // The section, which stands at a place, and the bytes left over after it.
 pub fn watched_section(e: Edition, s: &[u8], place: u32, nodes: u16) -> WatchedRead
     requires { ⌜ (place ≡ watchedPlace e (now s)) × (place ≤ 100000) × (nodes ≡ nodesCounted (now s)) ⌝ }
-    ensures { λ r. ⌜ SectionRead (rowsOf e (now (s .entry)) 3) mostWatched 0 (watchedCounted e (now (s .entry)))
+    ensures { λ r. ⌜ SectionRead (rowsOfWatched e (now (s .entry))) mostWatched 0 (watchedCounted e (now (s .entry)))
         (watchedAt e (now (s .entry))) (outcomeOf (r .answer)) (r .count) (r .watched) ⌝ }
 {
     let checked = count_refusal(s, place, 0, MOST_WATCHED);

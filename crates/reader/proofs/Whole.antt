@@ -1,4 +1,5 @@
 -- A sheet whose four sections are read is read whole. Assumes nothing.
+use mathlib.Core.Bool.{Bool}
 use mathlib.Core.List.{List}
 use mathlib.Core.Path.{_≡_, sym, ap, _∙_}
 use Prim.Native.Nat.{ℕ}
@@ -39,11 +40,11 @@ module _ (e : Edition) (s : List ℕ) where
         watched = rw (watched-count e s, ← known .1 .0) (known .1 .1);
       }
 
-  module _ {c : Reading} (told : ReadTo e s 4 c) where
-    answered : outcomeOf (c .answer) ≡ first (bytesRows e s)
-    answered = told .answered ∙ sym (ap first (front-to-back e s))
+  module _ {strict : Bool} {c : Reading} (told : ReadTo strict e s 4 c) where
+    answered : outcomeOf (c .answer) ≡ first (bytesRows strict e s)
+    answered = told .answered ∙ sym (ap first (front-to-back strict e s))
 
-    pub whole-refused : {n p k : ℕ} {contents : Contents} → c .answer ≡ Answer.Refused n p k → Holds noSheet contents → WholeRead e s (outcomeOf (c .answer)) contents
+    pub whole-refused : {n p k : ℕ} {contents : Contents} → c .answer ≡ Answer.Refused n p k → Holds noSheet contents → WholeRead strict e s (outcomeOf (c .answer)) contents
     whole-refused is none =
         record {
           answered = answered;
@@ -52,7 +53,7 @@ module _ (e : Edition) (s : List ℕ) where
           none-held = λ _. none;
         }
 
-    pub whole-held : {n : ℕ} → c .answer ≡ Answer.Ran n → WholeRead e s (outcomeOf (c .answer)) (c .contents)
+    pub whole-held : {n : ℕ} → c .answer ≡ Answer.Ran n → WholeRead strict e s (outcomeOf (c .answer)) (c .contents)
     whole-held is =
         record {
           answered = answered;
@@ -62,7 +63,7 @@ module _ (e : Edition) (s : List ℕ) where
         }
 
   -- what is held of a sheet that was read without a refusal
-  pub sheet-held : {a : Answer} {c : Contents} {n : ℕ} → WholeRead e s (outcomeOf a) c → a ≡ Answer.Ran n → Holds (sheetOf e s) c × InRange (sheetOf e s)
-  sheet-held {a} told is =
-      let f = told .answered ∙ passed (bytesRows e s) a (told .answered) _ is in
+  pub sheet-held : {strict : Bool} {a : Answer} {c : Contents} {n : ℕ} → WholeRead strict e s (outcomeOf a) c → a ≡ Answer.Ran n → Holds (sheetOf e s) c × InRange (sheetOf e s)
+  sheet-held {strict} {a} told is =
+      let f = told .answered ∙ passed (bytesRows strict e s) a (told .answered) _ is in
       (told .held f, told .in-range f)

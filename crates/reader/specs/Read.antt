@@ -1,4 +1,5 @@
 -- What is known of a sheet once its first sections are read, and once it is read whole.
+use mathlib.Core.Bool.{Bool}
 use mathlib.Core.List.{List}
 use mathlib.Core.Path.{_≡_}
 use Prim.Native.Nat.{ℕ, zero, suc, _+_, _*_, _≤_}
@@ -43,14 +44,15 @@ pub record Found (e : Edition) (s : List ℕ) (k : ℕ) (c : Reading) : Type 0 w
   pub known : SectionsKnown e s k c
 
 -- The first k sections are read: the answer is the first of their rows met.
-pub record ReadTo (e : Edition) (s : List ℕ) (k : ℕ) (c : Reading) : Type 0 where
+pub record ReadTo (strict : Bool) (e : Edition) (s : List ℕ) (k : ℕ) (c : Reading) : Type 0 where
+  pub strictness : c .strict ≡ strict
   pub edition : c .edition ≡ e
-  pub answered : outcomeOf (c .answer) ≡ first (each k (rowsOf e s))
+  pub answered : outcomeOf (c .answer) ≡ first (each k (rowsOf strict e s))
   pub found : outcomeOf (c .answer) ≡ finished 0 → Found e s k c
 
 -- Section k is to be read at a place: no refusal is met before, and the sections before are known.
 pub record Due (s : List ℕ) (k : ℕ) (c : Reading) (place : ℕ) : Type 0 where
-  pub before : ReadTo (c .edition) s k c
+  pub before : ReadTo (c .strict) (c .edition) s k c
   pub clear : outcomeOf (c .answer) ≡ finished 0
   pub stands : place ≡ placeOf (c .edition) s k
   pub near : place ≤ 65600 + 6200 * k
@@ -65,8 +67,8 @@ pub record InRange (S : Sheet) : Type 0 where
 
 -- A whole sheet is read: the answer is the first row of its bytes that is met.
 -- Without one, what the sheet holds is known; with one there is nothing.
-pub record WholeRead (e : Edition) (s : List ℕ) (answer : Outcome) (c : Contents) : Type 0 where
-  pub answered : answer ≡ first (bytesRows e s)
+pub record WholeRead (strict : Bool) (e : Edition) (s : List ℕ) (answer : Outcome) (c : Contents) : Type 0 where
+  pub answered : answer ≡ first (bytesRows strict e s)
   pub held : answer ≡ finished 0 → Holds (sheetOf e s) c
   pub in-range : answer ≡ finished 0 → InRange (sheetOf e s)
   pub none-held : (answer ≡ finished 0 → ⊥) → Holds noSheet c

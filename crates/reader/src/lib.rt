@@ -29,8 +29,8 @@ pub(crate) struct Section<'a> {
 
 // Reads the section of a number at the reader's offset.
 fn read_section<'a>(reader: SheetReader<'a>, which: u8, known: Reading) -> Section<'a>
-    requires { ⌜ ReadTo (known .edition) (now (reader .bytes)) which known × (known .at ≡ reader .at) × (which < 4) ⌝ }
-    ensures { λ r. ⌜ ReadTo (known .edition) (now (reader .entry .bytes)) (which + 1) (r .reading) × (r .rest .bytes ≡ reader .entry .bytes)
+    requires { ⌜ ReadTo (known .strict) (known .edition) (now (reader .bytes)) which known × (known .at ≡ reader .at) × (which < 4) ⌝ }
+    ensures { λ r. ⌜ ReadTo (known .strict) (known .edition) (now (reader .entry .bytes)) (which + 1) (r .reading) × (r .rest .bytes ≡ reader .entry .bytes)
         × (r .reading .at ≡ r .rest .at) ⌝ }
 {
     let bytes = reader.bytes;
@@ -46,8 +46,8 @@ fn read_section<'a>(reader: SheetReader<'a>, which: u8, known: Reading) -> Secti
 
 // Reads the four sections in their order.
 fn read_sections(bytes: &[u8], known: Reading) -> Reading
-    requires { ⌜ ReadTo (known .edition) (now bytes) 0 known × (known .at ≡ 0) ⌝ }
-    ensures { λ r. ⌜ ReadTo (known .edition) (now (bytes .entry)) 4 r ⌝ }
+    requires { ⌜ ReadTo (known .strict) (known .edition) (now bytes) 0 known × (known .at ≡ 0) ⌝ }
+    ensures { λ r. ⌜ ReadTo (known .strict) (known .edition) (now (bytes .entry)) 4 r ⌝ }
 {
     let nodes = read_section(SheetReader { bytes, at: 0 }, NODES, known);
     let modules = read_section(nodes.rest, MODULES, nodes.reading);
@@ -62,11 +62,11 @@ pub struct SheetRead {
     pub contents: Contents,
 }
 
-// Reads a sheet of an edition, whatever its bytes are.
-pub fn read_sheet(e: Edition, bytes: &[u8]) -> SheetRead
-    ensures { λ r. ⌜ WholeRead e (now (bytes .entry)) (outcomeOf (r .answer)) (r .contents) ⌝ }
+// Reads a sheet of an edition, strictly or not, whatever its bytes are.
+pub fn read_sheet(strict: bool, e: Edition, bytes: &[u8]) -> SheetRead
+    ensures { λ r. ⌜ WholeRead strict e (now (bytes .entry)) (outcomeOf (r .answer)) (r .contents) ⌝ }
 {
-    let read = read_sections(bytes, sections::unread(e));
+    let read = read_sections(bytes, sections::unread(strict, e));
     let answer = read.answer;
     let Answer::Ran(_) = answer else {
         let contents = sections::no_contents();

@@ -26,6 +26,8 @@ pub(crate) struct Reading {
     pub at: u32,
     // The first refusal met in them; Ran(0) without one.
     pub answer: Answer,
+    // Whether inputs without an event at tick 0 are refused.
+    pub strict: bool,
     pub edition: Edition,
     // Whether a module drives a node.
     pub driven: [bool; sheet::NODES],
@@ -51,13 +53,14 @@ pub(crate) fn no_contents() -> Contents
 }
 
 // What is known before the first section is read.
-pub(crate) fn unread(edition: Edition) -> Reading
-    ensures { λ r. ⌜ (r .at ≡ 0) × (r .edition ≡ edition) × ((s : List ℕ) → ReadTo edition s 0 r) ⌝ }
+pub(crate) fn unread(strict: bool, edition: Edition) -> Reading
+    ensures { λ r. ⌜ (r .at ≡ 0) × (r .strict ≡ strict) × (r .edition ≡ edition) × ((s : List ℕ) → ReadTo strict edition s 0 r) ⌝ }
 {
     let contents = no_contents();
     Reading {
         at: 0,
         answer: Answer::Ran(0),
+        strict,
         edition,
         driven: [false; sheet::NODES],
         contents,
@@ -67,8 +70,9 @@ pub(crate) fn unread(edition: Edition) -> Reading
 // Each section is read at its place, where no refusal was met before: its answer, and its records.
 fn with_nodes(s: &[u8], at: u32, known: Reading) -> Reading
     requires { ⌜ Due (now s) 0 known at ⌝ }
-    ensures { λ r. ⌜ ReadTo (known .edition) (now (s .entry)) 1 r ⌝ }
+    ensures { λ r. ⌜ ReadTo (known .strict) (known .edition) (now (s .entry)) 1 r ⌝ }
 {
+    let strict = known.strict;
     let edition = known.edition;
     let driven = known.driven;
     let mut contents = known.contents;
@@ -80,6 +84,7 @@ fn with_nodes(s: &[u8], at: u32, known: Reading) -> Reading
     Reading {
         at: at + COUNT_SIZE + (section.count as u32),
         answer,
+        strict,
         edition,
         driven,
         contents,
@@ -88,8 +93,9 @@ fn with_nodes(s: &[u8], at: u32, known: Reading) -> Reading
 
 fn with_modules(s: &[u8], at: u32, known: Reading) -> Reading
     requires { ⌜ Due (now s) 1 known at ⌝ }
-    ensures { λ r. ⌜ ReadTo (known .edition) (now (s .entry)) 2 r ⌝ }
+    ensures { λ r. ⌜ ReadTo (known .strict) (known .edition) (now (s .entry)) 2 r ⌝ }
 {
+    let strict = known.strict;
     let edition = known.edition;
     let mut contents = known.contents;
     let nodes = contents.nodes;
@@ -102,6 +108,7 @@ fn with_modules(s: &[u8], at: u32, known: Reading) -> Reading
     Reading {
         at: section.end,
         answer,
+        strict,
         edition,
         driven,
         contents,
@@ -110,12 +117,13 @@ fn with_modules(s: &[u8], at: u32, known: Reading) -> Reading
 
 fn with_drive(s: &[u8], at: u32, known: Reading) -> Reading
     requires { ⌜ Due (now s) 2 known at ⌝ }
-    ensures { λ r. ⌜ ReadTo (known .edition) (now (s .entry)) 3 r ⌝ }
+    ensures { λ r. ⌜ ReadTo (known .strict) (known .edition) (now (s .entry)) 3 r ⌝ }
 {
+    let strict = known.strict;
     let edition = known.edition;
     let driven = known.driven;
     let mut contents = known.contents;
-    let section = read_drive::drive_section(edition, s, at, contents.counts.nodes, &driven);
+    let section = read_drive::drive_section(strict, edition, s, at, contents.counts.nodes, &driven);
     let answer = section.answer;
     let drive = section.drive;
     contents.counts.events = section.count;
@@ -123,6 +131,7 @@ fn with_drive(s: &[u8], at: u32, known: Reading) -> Reading
     Reading {
         at: at + COUNT_SIZE + EVENT_SIZE * (section.count as u32),
         answer,
+        strict,
         edition,
         driven,
         contents,
@@ -131,8 +140,9 @@ fn with_drive(s: &[u8], at: u32, known: Reading) -> Reading
 
 fn with_watched(s: &[u8], at: u32, known: Reading) -> Reading
     requires { ⌜ Due (now s) 3 known at ⌝ }
-    ensures { λ r. ⌜ ReadTo (known .edition) (now (s .entry)) 4 r ⌝ }
+    ensures { λ r. ⌜ ReadTo (known .strict) (known .edition) (now (s .entry)) 4 r ⌝ }
 {
+    let strict = known.strict;
     let edition = known.edition;
     let driven = known.driven;
     let mut contents = known.contents;
@@ -144,6 +154,7 @@ fn with_watched(s: &[u8], at: u32, known: Reading) -> Reading
     Reading {
         at: at + COUNT_SIZE + (section.count as u32),
         answer,
+        strict,
         edition,
         driven,
         contents,
@@ -152,8 +163,8 @@ fn with_watched(s: &[u8], at: u32, known: Reading) -> Reading
 
 // Reads the section of a number at its place. A refusal met before stands.
 pub(crate) fn read(s: &[u8], at: u32, which: u8, known: Reading) -> Reading
-    requires { ⌜ ReadTo (known .edition) (now s) which known × (known .at ≡ at) × (which < 4) ⌝ }
-    ensures { λ r. ⌜ ReadTo (known .edition) (now (s .entry)) (which + 1) r ⌝ }
+    requires { ⌜ ReadTo (known .strict) (known .edition) (now s) which known × (known .at ≡ at) × (which < 4) ⌝ }
+    ensures { λ r. ⌜ ReadTo (known .strict) (known .edition) (now (s .entry)) (which + 1) r ⌝ }
 {
     let a = known.answer;
     let Answer::Ran(_) = a else {

@@ -11,7 +11,7 @@ ghost use Rattle.format.specs.Accepted.{Known};
 ghost use Rattle.network.specs.Run.{RunLeaves};
 
 // Runs a sheet of an edition to a horizon and lists the changes of its watched nodes:
-// refusals 1 to 20, or a finished run with the count of records.
+// refusals 1 to 20 except 15, or a finished run with the count of records.
 pub fn run(edition: Edition, bytes: &[u8], horizon: u32, listing: &mut [u8]) -> Answer
     requires { ⌜ Known edition ⌝ }
     ensures { λ r. ⌜ RunLeaves edition (now (bytes .entry)) horizon (now (listing .entry)) (outcomeOf r) (now (listing .exit)) ⌝ }
@@ -22,7 +22,7 @@ pub fn run(edition: Edition, bytes: &[u8], horizon: u32, listing: &mut [u8]) -> 
     if GREATEST_HORIZON < horizon {
         return Answer::Refused(1, 0, 0);
     }
-    let read = reader::read_sheet(edition, bytes);
+    let read = reader::read_sheet(false, edition, bytes);
     let a = read.answer;
     let Answer::Ran(_) = a else {
         return a;

@@ -6,7 +6,7 @@ use Rattle.sheet.specs.Outcome.{finished, refused}
 use Rattle.sheet.specs.Enumerate.{anyBelow, each}
 use Rattle.sheet.specs.Layout.{firstEdition, sheetOf}
 use Rattle.sheet.specs.Loop.{leadsOver}
-use Rattle.sheet.specs.Refusal.{notAboveEvent, notAboveWatched, bytesRows, rows, first, checked}
+use Rattle.sheet.specs.Refusal.{notAboveEvent, notAboveWatched, bytesRows, rows, first, checkedBy, checked, checkedStrictly}
 
 -- document 01's worked run: a NAND of delay 3 from node 0 and itself onto node 1
 worked : List ℕ
@@ -17,7 +17,7 @@ worked =
     ∷ 2 ∷ 0 ∷ 0 ∷ 1 ∷ []
 
 worked-accepted : checked firstEdition worked ≡ finished 0
-unfolding worked checked rows bytesRows sheetOf first each anyBelow leadsOver notAboveEvent notAboveWatched
+unfolding worked checkedBy rows bytesRows sheetOf first each anyBelow leadsOver notAboveEvent notAboveWatched
 worked-accepted = refl
 
 -- an inverter onto its own input: delay 1, and delay 0
@@ -25,13 +25,37 @@ ring : ℕ → List ℕ
 ring delay = 1 ∷ 0 ∷ 0 ∷ 1 ∷ 0 ∷ 2 ∷ 0 ∷ 0 ∷ 0 ∷ 0 ∷ delay ∷ 0 ∷ 0 ∷ 0 ∷ 0 ∷ 0 ∷ []
 
 ring-1 : checked firstEdition (ring 1) ≡ finished 0
-unfolding ring checked rows bytesRows sheetOf first each anyBelow leadsOver notAboveEvent notAboveWatched
+unfolding ring checkedBy rows bytesRows sheetOf first each anyBelow leadsOver notAboveEvent notAboveWatched
 ring-1 = refl
 
 ring-0 : checked firstEdition (ring 0) ≡ refused 18 0 0
-unfolding ring checked rows bytesRows sheetOf first each anyBelow leadsOver notAboveEvent notAboveWatched
+unfolding ring checkedBy rows bytesRows sheetOf first each anyBelow leadsOver notAboveEvent notAboveWatched
 ring-0 = refl
 
+-- an input without an event, to which nothing is watched: a strict check alone refuses it
+undriven : List ℕ
+undriven = 1 ∷ 0 ∷ 4 ∷ 0 ∷ 0 ∷ 0 ∷ 0 ∷ 0 ∷ 0 ∷ []
+
+undriven-accepted : (checked firstEdition undriven ≡ finished 0) × (checkedStrictly firstEdition undriven ≡ refused 15 0 0)
+unfolding undriven checkedBy rows bytesRows sheetOf first each anyBelow leadsOver notAboveEvent notAboveWatched
+undriven-accepted = (refl, refl)
+
+-- 15 comes after the drive and before the watched count, which is missing here: the first of two inputs has an event at tick 0, the second at tick 1
+late : List ℕ
+late = 2 ∷ 0 ∷ 4 ∷ 4 ∷ 0 ∷ 0 ∷ 2 ∷ 0 ∷ 0 ∷ 0 ∷ 0 ∷ 0 ∷ 0 ∷ 1 ∷ 1 ∷ 0 ∷ 0 ∷ 0 ∷ 1 ∷ 1 ∷ []
+
+late-cut : (checked firstEdition late ≡ refused 2 20 0) × (checkedStrictly firstEdition late ≡ refused 15 1 0)
+unfolding late checkedBy rows bytesRows sheetOf first each anyBelow leadsOver notAboveEvent notAboveWatched
+late-cut = (refl, refl)
+
+-- and once both have one at tick 0, a strict check answers as a check does
+begun : List ℕ
+begun = 2 ∷ 0 ∷ 4 ∷ 4 ∷ 0 ∷ 0 ∷ 2 ∷ 0 ∷ 0 ∷ 0 ∷ 0 ∷ 0 ∷ 0 ∷ 1 ∷ 0 ∷ 0 ∷ 0 ∷ 0 ∷ 1 ∷ 1 ∷ []
+
+begun-cut : (checked firstEdition begun ≡ refused 2 20 0) × (checkedStrictly firstEdition begun ≡ refused 2 20 0)
+unfolding begun checkedBy rows bytesRows sheetOf first each anyBelow leadsOver notAboveEvent notAboveWatched
+begun-cut = (refl, refl)
+
 empty : checked firstEdition [] ≡ refused 2 0 0
-unfolding checked rows bytesRows sheetOf first each anyBelow leadsOver notAboveEvent notAboveWatched
+unfolding checkedBy rows bytesRows sheetOf first each anyBelow leadsOver notAboveEvent notAboveWatched
 empty = refl

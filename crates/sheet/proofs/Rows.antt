@@ -35,6 +35,11 @@ _then_ {xs} c d r m = ⊎-elim (c r) (d r) (List·Memᴰ·append-cases xs m)
 pub all-each : {C : Row → Type 0} (n : ℕ) (f : ℕ → List Row) → ((i : ℕ) → i < n → All C (f i)) → All C (each n f)
 all-each n f c r m = let h = each-mem n f .0 m in c (h .0) (h .1) r (h .2)
 
+-- rows that are there under a condition alone
+pub all-where : {C : Row → Type 0} (b : Bool) (xs : List Row) → (b ≡ true → All C xs) → All C (if b then xs else [])
+all-where {C} true xs c = c refl
+all-where {C} false xs c = all-nil C
+
 -- no row is met
 abbrev pub Clear : List Row → Type 0
 Clear xs = All (λ r. r .met ≡ false) xs

@@ -1,5 +1,6 @@
--- Document 01, "Where each refusal is met": refusals 2 to 18, row by row in the order of its table, and the answer of a check.
-use mathlib.Core.Bool.{Bool, false, _&&_, _||_, not}
+-- Document 01, "Where each refusal is met", with document 02's W-203: refusals 2 to 18, row by row in the order of the table, and the
+-- answer of a check. A strict check has the row of 15; a check that is not strict, and so a run, has all the others.
+use mathlib.Core.Bool.{Bool, true, false, _&&_, _||_, not}
 use mathlib.Core.List.{List, [], _∷_, _++_}
 use Prim.Native.Nat.{ℕ, zero, suc, _+_, _*_}
 use lib.Dec.{eqb, leb, ltb}
@@ -93,7 +94,7 @@ eventRows e s k =
     ∷ (14 at eventPlace e s k when notAboveEvent e s k)
     ∷ []
 
--- after the drive: input without an event at tick 0
+-- after the drive, in a strict check alone: input without an event at tick 0
 abbrev pub firstEventRows : Edition → List ℕ → ℕ → List Row
 firstEventRows e s v = (15 at v when isInput (sheetOf e s) v && not (drivenAtStart (sheetOf e s) v)) ∷ []
 
@@ -126,16 +127,19 @@ modulesSection e s = countRows s (modulesPlace s) 0 mostModules ++ each (modules
 abbrev pub driveSection : Edition → List ℕ → List Row
 driveSection e s = countRows s (drivePlace e s) 0 mostEvents ++ each (eventsCounted e s) (eventRows e s)
 
+abbrev pub firstEventsSection : Bool → Edition → List ℕ → List Row
+firstEventsSection strict e s = if strict then each (nodesCounted s) (firstEventRows e s) else []
+
 abbrev pub watchedSection : Edition → List ℕ → List Row
 watchedSection e s = countRows s (watchedPlace e s) 0 mostWatched ++ each (watchedCounted e s) (watchedRows e s)
 
-unfoldable pub bytesRows : Edition → List ℕ → List Row
-bytesRows e s =
+unfoldable pub bytesRows : Bool → Edition → List ℕ → List Row
+bytesRows strict e s =
     nodesSection s
     ++ modulesSection e s
     ++ each (nodesCounted s) (startRows e s)
     ++ driveSection e s
-    ++ each (nodesCounted s) (firstEventRows e s)
+    ++ firstEventsSection strict e s
     ++ watchedSection e s
     ++ leftOverRows e s
 
@@ -143,14 +147,20 @@ bytesRows e s =
 abbrev pub loopsSection : Sheet → List Row
 loopsSection S = each (nodeCount S) (loopRows S)
 
-unfoldable pub rows : Edition → List ℕ → List Row
-rows e s = bytesRows e s ++ loopsSection (sheetOf e s)
+unfoldable pub rows : Bool → Edition → List ℕ → List Row
+rows strict e s = bytesRows strict e s ++ loopsSection (sheetOf e s)
 
 -- the first row whose condition is met; without one, a finished call with count 0
 unfoldable pub first : List Row → Outcome
 first [] = finished 0
 first (r ∷ rs) = if r .met then refused (r .number) (r .place) 0 else first rs
 
--- what checking a sheet answers
-unfoldable pub checked : Edition → List ℕ → Outcome
-checked e s = first (rows e s)
+-- what checking a sheet answers, strictly or not
+unfoldable pub checkedBy : Bool → Edition → List ℕ → Outcome
+checkedBy strict e s = first (rows strict e s)
+
+abbrev pub checked : Edition → List ℕ → Outcome
+checked e s = checkedBy false e s
+
+abbrev pub checkedStrictly : Edition → List ℕ → Outcome
+checkedStrictly e s = checkedBy true e s

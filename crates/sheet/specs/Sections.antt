@@ -1,5 +1,6 @@
 -- The four sections by their number, 0 the nodes' to 3 the watched nodes':
 -- where each stands, the rows met in it and right after it, and what reading it gives.
+use mathlib.Core.Bool.{Bool}
 use mathlib.Core.List.{List, _++_}
 use mathlib.Core.Path.{_≡_}
 use Prim.Native.Nat.{ℕ, zero, suc, _≤_}
@@ -10,7 +11,8 @@ use Rattle.sheet.specs.Contents.{filled}
 use Rattle.sheet.specs.Layout.{nodesCounted, modulesPlace, drivePlace, watchedPlace, sheetEnd}
 use Rattle.sheet.specs.Outcome.{Outcome, finished}
 use Rattle.sheet.specs.Refusal.{Row, first}
-use Rattle.sheet.specs.Refusal.{nodesSection, modulesSection, startRows, driveSection, firstEventRows, watchedSection, leftOverRows}
+use Rattle.sheet.specs.Refusal.{nodesSection, modulesSection, startRows, driveSection}
+use Rattle.sheet.specs.Refusal.{firstEventsSection, watchedSection, leftOverRows}
 
 -- the place of a section; past the last, the sheet's end
 abbrev pub placeOf : Edition → List ℕ → ℕ → ℕ
@@ -20,12 +22,23 @@ placeOf e s (suc (suc zero)) = drivePlace e s
 placeOf e s (suc (suc (suc zero))) = watchedPlace e s
 placeOf e s (suc (suc (suc (suc k)))) = sheetEnd e s
 
--- after the modules, the nodes' bytes; after the drive, the inputs' first events; after the watched nodes, the bytes left over
-abbrev pub rowsOf : Edition → List ℕ → ℕ → List Row
-rowsOf e s zero = nodesSection s
-rowsOf e s (suc zero) = modulesSection e s ++ each (nodesCounted s) (startRows e s)
-rowsOf e s (suc (suc zero)) = driveSection e s ++ each (nodesCounted s) (firstEventRows e s)
-rowsOf e s (suc (suc (suc k))) = watchedSection e s ++ leftOverRows e s
+-- after the modules, the nodes' bytes
+abbrev pub rowsOfModules : Edition → List ℕ → List Row
+rowsOfModules e s = modulesSection e s ++ each (nodesCounted s) (startRows e s)
+
+-- after the drive, in a strict check, the inputs' first events
+abbrev pub rowsOfDrive : Bool → Edition → List ℕ → List Row
+rowsOfDrive strict e s = driveSection e s ++ firstEventsSection strict e s
+
+-- after the watched nodes, the bytes left over
+abbrev pub rowsOfWatched : Edition → List ℕ → List Row
+rowsOfWatched e s = watchedSection e s ++ leftOverRows e s
+
+abbrev pub rowsOf : Bool → Edition → List ℕ → ℕ → List Row
+rowsOf strict e s zero = nodesSection s
+rowsOf strict e s (suc zero) = rowsOfModules e s
+rowsOf strict e s (suc (suc zero)) = rowsOfDrive strict e s
+rowsOf strict e s (suc (suc (suc k))) = rowsOfWatched e s
 
 -- A section read: the first of its rows that is met is the answer.
 -- Without one, the count and the records that stand there are known, in an array filled up with blanks;

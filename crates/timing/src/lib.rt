@@ -5,14 +5,14 @@ use sheet::Edition;
 ghost use mathlib.Core.Path.{_≡_};
 ghost use Rattle.sheet.specs.Layout.{firstEdition};
 ghost use Rattle.sheet.specs.Outcome.{outcomeOf};
-ghost use Rattle.sheet.specs.Refusal.{checked};
+ghost use Rattle.sheet.specs.Refusal.{checkedBy, checked, checkedStrictly};
 ghost use Rattle.network.specs.Run.{RunLeaves};
 
-// Checks a sheet of an edition: the refusals of its bytes, and then its zero-delay loops.
-fn check_in(edition: Edition, bytes: &[u8]) -> Answer
-    ensures { λ r. ⌜ outcomeOf r ≡ checked edition (now (bytes .entry)) ⌝ }
+// Checks a sheet of an edition, strictly or not: the refusals of its bytes, and then its zero-delay loops.
+fn check_in(strict: bool, edition: Edition, bytes: &[u8]) -> Answer
+    ensures { λ r. ⌜ outcomeOf r ≡ checkedBy strict edition (now (bytes .entry)) ⌝ }
 {
-    let read = reader::read_sheet(edition, bytes);
+    let read = reader::read_sheet(strict, edition, bytes);
     let a = read.answer;
     let Answer::Ran(_) = a else {
         return a;
@@ -23,14 +23,21 @@ fn check_in(edition: Edition, bytes: &[u8]) -> Answer
     reach::loop_refusal(modules, counts.modules, counts.nodes)
 }
 
-// Checks a sheet without running it: refusals 2 to 18, or a finished call with count 0.
+// Checks a sheet without running it: refusals 2 to 14 and 16 to 18, or a finished call with count 0.
 pub fn check(sheet: &[u8]) -> Answer
     ensures { λ r. ⌜ outcomeOf r ≡ checked firstEdition (now (sheet .entry)) ⌝ }
 {
-    check_in(sheet::first_edition(), sheet)
+    check_in(false, sheet::first_edition(), sheet)
 }
 
-// Runs a sheet to a horizon: refusals 1 to 20, or a finished run with the count of its records.
+// Checks a sheet and that each of its inputs has an event at tick 0: refusals 2 to 18, or a finished call with count 0.
+pub fn check_strict(sheet: &[u8]) -> Answer
+    ensures { λ r. ⌜ outcomeOf r ≡ checkedStrictly firstEdition (now (sheet .entry)) ⌝ }
+{
+    check_in(true, sheet::first_edition(), sheet)
+}
+
+// Runs a sheet to a horizon: refusals 1 to 20 except 15, or a finished run with the count of its records.
 // The listing's records stand first in the buffer; bytes past them are as they were.
 pub fn run(sheet: &[u8], horizon: u32, listing: &mut [u8]) -> Answer
     ensures { λ r. ⌜ RunLeaves firstEdition (now (sheet .entry)) horizon (now (listing .entry)) (outcomeOf r) (now (listing .exit)) ⌝ }

@@ -3,7 +3,7 @@ use timing::Answer;
 ghost use mathlib.Core.Path.{_≡_};
 ghost use Rattle.sheet.specs.Layout.{firstEdition};
 ghost use Rattle.sheet.specs.Outcome.{Outcome, outcomeOf, numbers, fromNumbers};
-ghost use Rattle.sheet.specs.Refusal.{checked};
+ghost use Rattle.sheet.specs.Refusal.{checked, checkedStrictly};
 ghost use Rattle.network.specs.Run.{RunLeaves};
 ghost use Rattle.sentence.specs.Describing.{Describes};
 
@@ -32,6 +32,13 @@ pub extern "C" fn timing_check(sheet: &[u8], answer: &mut [u32; 3])
     ensures { λ _. ⌜ now (answer .exit) ≡ numbers (checked firstEdition (now (sheet .entry))) ⌝ }
 {
     *answer = numbers_of(timing::check(sheet));
+}
+
+#[no_mangle]
+pub extern "C" fn timing_check_strict(sheet: &[u8], answer: &mut [u32; 3])
+    ensures { λ _. ⌜ now (answer .exit) ≡ numbers (checkedStrictly firstEdition (now (sheet .entry))) ⌝ }
+{
+    *answer = numbers_of(timing::check_strict(sheet));
 }
 
 // The three numbers are those of the answer that the run leaves.

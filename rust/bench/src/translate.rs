@@ -4,15 +4,17 @@
 pub mod verilog;
 pub mod vhdl;
 
-use plain::{Event, Sheet};
+use plain::{Event, Sheet, UNKNOWN};
 
-/// The value that a node begins with: a driven node's own byte, an input's event at tick 0.
+/// The value that a node begins with: a driven node's own byte, an input's event at tick 0, and X
+/// without one.
 fn first_value(sheet: &Sheet, node: u8) -> u8 {
     match sheet.driver(node) {
         Some(_) => sheet.nodes[usize::from(node)],
         None => {
             let mut own = sheet.drive.iter().filter(|event| event.node == node);
-            own.next().expect("an input has an event at tick 0").value
+            let first = own.next().filter(|event| event.tick == 0);
+            first.map_or(UNKNOWN, |event| event.value)
         }
     }
 }

@@ -1,7 +1,7 @@
 //! The sheets that are timed. Few nodes are watched, so that the listings stay short.
 
 use generate::sheets::*;
-use generate::Generator;
+use generate::{Generator, Start};
 use plain::{Sheet, HIGH, INPUT, LOW};
 
 pub struct Workload {
@@ -44,7 +44,7 @@ fn travelling_ring(nodes: usize) -> Sheet {
 /// Gates with delays of 1 to 100, from a seed with which they stay lively and never have more
 /// than 4,096 changes pending.
 fn random_gates() -> Sheet {
-    let mut sheet = Generator::new(10).gates(255, 100);
+    let mut sheet = Generator::new(10).gates(255, 100, Start::AtOnce);
     sheet.watched = vec![0, 100];
     sheet
 }

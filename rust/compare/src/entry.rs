@@ -4,6 +4,8 @@ mod c {
     extern "C" {
         pub fn timing_check(sheet: *const u8, sheet_len: usize, answer: *mut [u32; 3]);
 
+        pub fn timing_check_strict(sheet: *const u8, sheet_len: usize, answer: *mut [u32; 3]);
+
         pub fn timing_run(
             sheet: *const u8,
             sheet_len: usize,
@@ -33,6 +35,14 @@ pub fn check(sheet: &[u8]) -> [u32; 3] {
     // SAFETY: the entry point reads the sheet's bytes and writes the three words, and both are
     // lent for the whole call. An empty slice's pointer is not null.
     unsafe { c::timing_check(sheet.as_ptr(), sheet.len(), &mut answer) };
+    answer
+}
+
+/// Checks the sheet and that every input has an event at tick 0.
+pub fn check_strict(sheet: &[u8]) -> [u32; 3] {
+    let mut answer = [UNWRITTEN; 3];
+    // SAFETY: as above.
+    unsafe { c::timing_check_strict(sheet.as_ptr(), sheet.len(), &mut answer) };
     answer
 }
 

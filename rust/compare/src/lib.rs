@@ -6,7 +6,7 @@ mod lent;
 mod place;
 mod stream;
 
-pub use entry::{check, describe, run};
+pub use entry::{check, check_strict, describe, run};
 pub use hex::hex;
 pub use lent::Lent;
 pub use place::{program, repository};

@@ -3,35 +3,52 @@
 use compare::{count, hex, seed};
 use generate::sheets::{event, gate, AND, BUFFER, INVERTER};
 use generate::{by_hand, every, Generator, Size};
-use plain::{worked_run, Sheet, HIGH, INPUT, UNKNOWN};
+use plain::{worked_run, Answer, Sheet, HIGH, INPUT, UNKNOWN};
 
-/// Asserts that both give the bytes the same answer, and gives it.
-fn agreed(sheet: &[u8], whence: &str) -> [u32; 3] {
-    let proved = compare::check(sheet);
-    let plain = plain::check(sheet).triple();
+/// Asserts that both give the bytes the same answers, and gives them: the check's and the strict
+/// check's.
+fn agreed(sheet: &[u8], whence: &str) -> [[u32; 3]; 2] {
+    let proved = [compare::check(sheet), compare::check_strict(sheet)];
+    let plain = [plain::check(sheet), plain::check_strict(sheet)].map(Answer::triple);
     assert_eq!(
         proved,
         plain,
         "proved, then plain: {whence}: {}",
         hex(sheet)
     );
+    let [plainly, strictly] = proved;
+    assert!(strictly == plainly || strictly[0] == 15, "{whence}");
     proved
+}
+
+/// Asserts that a number was met often, unless it is one that is never met.
+fn met_often(met: &[u64; 19], never: &[usize], whence: &str) {
+    assert!(met[0] >= 10_000, "{whence}: {met:?}");
+    for (number, &times) in met.iter().enumerate() {
+        let enough = if never.contains(&number) {
+            times == 0
+        } else {
+            times >= 100
+        };
+        assert!(enough, "{whence}, {number}: {met:?}");
+    }
 }
 
 #[test]
 fn generated_sheets() {
     let seed = seed();
     let mut generator = Generator::new(seed);
-    let mut met = [0u64; 19];
+    let mut met = [[0u64; 19]; 2];
     for place in 0..count(200_000) {
         let sheet = generator.any();
-        let [number, ..] = agreed(&sheet, &format!("seed {seed}, sheet {place}"));
-        met[number as usize] += 1;
+        let answers = agreed(&sheet, &format!("seed {seed}, sheet {place}"));
+        for (met, [number, ..]) in met.iter_mut().zip(answers) {
+            met[number as usize] += 1;
+        }
     }
-    println!("answers by number, 0 for accepted: {met:?}");
-    assert!(met[0] >= 10_000, "seed {seed}: {met:?}");
-    assert_eq!(met[1], 0, "seed {seed}: {met:?}");
-    assert!(met[2..].iter().all(|&n| n >= 100), "seed {seed}: {met:?}");
+    println!("answers by number, 0 for accepted, then of a strict check: {met:?}");
+    met_often(&met[0], &[1, 15], &format!("seed {seed}"));
+    met_often(&met[1], &[1], &format!("seed {seed}, strictly"));
 }
 
 #[test]
@@ -61,7 +78,11 @@ fn every_value_of_every_byte() {
 #[test]
 fn answers_worked_out_by_hand() {
     for case in by_hand::cases() {
-        assert_eq!(compare::check(&case.sheet), case.answer, "{}", case.name);
+        let answers = [
+            compare::check(&case.sheet),
+            compare::check_strict(&case.sheet),
+        ];
+        assert_eq!(answers, [case.answer, case.strict], "{}", case.name);
     }
 }
 

@@ -5,11 +5,19 @@ use plain::{Module, Sheet, INPUT};
 
 use crate::sheets::{event, gate};
 
-/// A sheet and the number, place and count that checking it answers.
+/// A sheet and the number, place and count that checking it answers, and that a strict check does.
 pub struct Case {
     pub name: &'static str,
     pub sheet: Vec<u8>,
     pub answer: [u32; 3],
+    pub strict: [u32; 3],
+}
+
+impl Case {
+    /// A strict check has an answer of its own.
+    fn strictly(self, strict: [u32; 3]) -> Case {
+        Case { strict, ..self }
+    }
 }
 
 /// What an accepted sheet is answered.
@@ -33,6 +41,7 @@ pub fn cases() -> Vec<Case> {
         module_order(),
         drivers(),
         drive(),
+        first_events(),
         watched(),
         loops(),
         ends(),
@@ -58,6 +67,7 @@ fn bytes(name: &'static str, answer: [u32; 3], sheet: Vec<u8>) -> Case {
         name,
         sheet,
         answer,
+        strict: answer,
     }
 }
 
@@ -266,14 +276,69 @@ fn drive() -> Vec<Case> {
         changed("13 before 14", [13, 29, 0], |s| {
             s.drive[1] = event(0, 0, 4);
         }),
-        changed("no event", [15, 0, 0], |s| s.drive.clear()),
-        changed("no event at tick 0", [15, 0, 0], |s| s.drive[0].tick = 1),
-        whole("least input without an event", [15, 1, 0], {
+    ]
+}
+
+/// Inputs that begin late or never: a strict check refuses them after the drive and before the
+/// watched count.
+fn first_events() -> Vec<Case> {
+    vec![
+        changed("no event", ACCEPTED, |s| s.drive.clear()).strictly([15, 0, 0]),
+        changed("no event at tick 0", ACCEPTED, |s| s.drive[0].tick = 1).strictly([15, 0, 0]),
+        whole("least input without an event", ACCEPTED, {
             let mut sheet = inputs(4);
             sheet.drive.remove(3);
             sheet.drive.remove(1);
             sheet
+        })
+        .strictly([15, 1, 0]),
+        whole("the last input begins late", ACCEPTED, {
+            let mut sheet = inputs(256);
+            sheet.drive[255].tick = 1;
+            sheet
+        })
+        .strictly([15, 255, 0]),
+        whole("no input has an event", ACCEPTED, {
+            let mut sheet = inputs(3);
+            sheet.drive.clear();
+            sheet
+        })
+        .strictly([15, 0, 0]),
+        changed("11 before 15", [11, 23, 0], |s| {
+            s.drive[0].tick = 1_000_000;
         }),
+        changed("12 before 15", [12, 23, 0], |s| s.drive[0].node = 1),
+        changed("13 before 15", [13, 29, 0], |s| {
+            s.drive[0].tick = 1;
+            s.drive[1].value = 4;
+        }),
+        changed("14 before 15", [14, 29, 0], |s| {
+            s.drive[0].tick = 2;
+            s.drive[1].tick = 1;
+        }),
+        cut("2 in the drive before 15", [2, 29, 0], 34, |s| {
+            s.drive[0].tick = 1;
+        }),
+        cut("15 before a missing count", [2, 35, 0], 35, |s| {
+            s.drive[0].tick = 1;
+        })
+        .strictly([15, 0, 0]),
+        changed("15 before 3", [3, 35, 0], |s| {
+            s.drive[0].tick = 1;
+            s.watched = vec![0; 257];
+        })
+        .strictly([15, 0, 0]),
+        changed("15 before 16", [16, 38, 0], |s| {
+            s.drive[0].tick = 1;
+            s.watched[1] = 3;
+        })
+        .strictly([15, 0, 0]),
+        left_over("15 before 17", [17, 39, 0], |s| s.drive[0].tick = 1).strictly([15, 0, 0]),
+        changed("15 before 18", [18, 1, 0], |s| {
+            s.drive[0].tick = 1;
+            s.modules[0] = gate(2, [1, 0], 1, 0);
+        })
+        .strictly([15, 0, 0]),
     ]
 }
 
@@ -434,9 +499,6 @@ fn ends() -> Vec<Case> {
         }),
         cut("2 before 11", [2, 29, 0], 34, |s| {
             s.drive[1].tick = 1_000_000;
-        }),
-        cut("15 before a missing count", [15, 0, 0], 35, |s| {
-            s.drive[0].tick = 1;
         }),
         left_over("a byte left over", [17, 39, 0], |_| {}),
     ]

@@ -1,10 +1,10 @@
 //! Runs with about 4,096 changes pending where they are busiest.
 
-use plain::{renumbered, rule, Sheet, HIGH, INPUT, LOW};
+use plain::{renumbered, rule, Sheet, HIGH, INPUT, LOW, UNKNOWN};
 
-use crate::limits::MOST_PENDING;
+use crate::limits::{MOST_NODES, MOST_PENDING};
 use crate::sheets::*;
-use crate::{byte, Generator, RunInput};
+use crate::{byte, starts_of, Generator, RunInput, Start};
 
 /// The kinds that pass every change on when all their inputs are one node. A memory does so with
 /// the whole set.
@@ -54,7 +54,8 @@ impl Generator {
         let changes = (self.near_the_limit() / modules).min(1_023);
         let delay = changes + self.random.between(0, 20);
         let settled = self.random.chance(80);
-        let mut sheet = toggled_input(changes);
+        let start = self.random.pick(&[Start::AtOnce, Start::Late]);
+        let mut sheet = toggled_input(changes, start);
         for _ in 0..modules {
             self.add_passing(&mut sheet, 0, delay, settled);
         }
@@ -113,6 +114,14 @@ impl Generator {
         add_module(sheet, kind, node, delay, initial);
     }
 
+    /// Adds inputs that nothing reads: they never begin.
+    fn add_idle_inputs(&mut self, sheet: &mut Sheet) {
+        let most = (MOST_NODES - sheet.nodes.len()).min(2);
+        for _ in 0..self.random.between(0, most) {
+            sheet.nodes.push(INPUT);
+        }
+    }
+
     /// Adds a constant. Its one change, if it has any, is pending from the start.
     fn add_constant(&mut self, sheet: &mut Sheet, delay: usize) {
         let initial = self.level();
@@ -122,6 +131,7 @@ impl Generator {
     /// The sheet with some nodes watched and all numbered anyhow, and a horizon: mostly one from
     /// `enough` on, where no change of the busiest tick is cut off.
     fn numbered_anyhow(&mut self, mut sheet: Sheet, enough: usize) -> RunInput {
+        self.add_idle_inputs(&mut sheet);
         let percent = self.random.pick(&[0, 5, 50]);
         let numbers = sheet.node_numbers();
         sheet.watched = numbers.filter(|_| self.random.chance(percent)).collect();
@@ -166,10 +176,11 @@ fn passed_on(kind: u8, value: u8) -> u8 {
     }
 }
 
-/// An input is low at first here.
+/// What a node has at tick 0. An input is X there if it has no event.
 fn begins_with(sheet: &Sheet, node: u8) -> u8 {
     match sheet.nodes[usize::from(node)] {
-        INPUT => LOW,
+        INPUT if starts_of(sheet).contains(&Start::AtOnce) => LOW,
+        INPUT => UNKNOWN,
         initial => initial,
     }
 }
@@ -181,10 +192,11 @@ fn oscillator() -> Sheet {
     sheet
 }
 
-/// An input, node 0, that changes at each tick from 1 to `changes`.
-fn toggled_input(changes: usize) -> Sheet {
+/// An input, node 0, that changes at each tick from 1 to `changes`. Before, it is low or not known.
+fn toggled_input(changes: usize, start: Start) -> Sheet {
     let level = |tick: u32| if tick.is_multiple_of(2) { LOW } else { HIGH };
-    let ticks = 0..=changes as u32;
+    let first = u32::from(start == Start::Late);
+    let ticks = first..=changes as u32;
     Sheet {
         nodes: vec![INPUT],
         drive: ticks.map(|tick| event(tick, 0, level(tick))).collect(),

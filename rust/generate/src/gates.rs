@@ -3,24 +3,29 @@
 use plain::{Module, Sheet, HIGH, INPUT, LOW};
 
 use crate::sheets::*;
-use crate::{byte, Generator};
+use crate::{byte, Generator, Start};
 
 const KINDS: &[u8] = &[AND, OR, XOR, NAND, NOR];
 
 impl Generator {
     /// So many gates, each with a delay from 1 on and with any nodes as its inputs, and an input
-    /// that stays low. Nothing is watched.
-    pub fn gates(&mut self, gates: usize, longest_delay: usize) -> Sheet {
+    /// that stays low once it has begun. Nothing is watched.
+    pub fn gates(&mut self, gates: usize, longest_delay: usize, start: Start) -> Sheet {
         let nodes = gates + 1;
         let input = byte(gates);
         let initial = (0..gates).map(|_| self.random.pick(&[LOW, HIGH]));
         let mut bytes: Vec<u8> = initial.collect();
         bytes.push(INPUT);
         let modules = (0..input).map(|node| self.two_input_gate(node, nodes, longest_delay));
+        let modules = modules.collect();
+        let first = self.first_tick(start);
         Sheet {
             nodes: bytes,
-            modules: modules.collect(),
-            drive: vec![event(0, input, LOW)],
+            modules,
+            drive: first
+                .map(|tick| event(tick, input, LOW))
+                .into_iter()
+                .collect(),
             watched: Vec::new(),
         }
     }

@@ -22,11 +22,13 @@ mod run;
 mod run_mixture;
 pub mod shared;
 pub mod sheets;
+mod start;
 mod valid;
 mod zero_delay;
 
 pub use room::{room_for_all, Room};
 pub use run_mixture::RunInput;
+pub use start::{starts_of, Start};
 pub use valid::Size;
 pub use zero_delay::ZeroDelay;
 

@@ -1,7 +1,13 @@
-//! Document 01's limits that a run meets, and the size of a record.
+//! Document 01's limits that generated runs meet, and the size of a record.
 
 /// The last horizon that runs.
 pub const LAST_HORIZON: u32 = 1_000_000;
+
+/// The most nodes that a sheet may have.
+pub const MOST_NODES: usize = 256;
+
+/// The most events that a drive may have.
+pub const MOST_EVENTS: usize = 1_024;
 
 /// The most changes that may be pending after a tick.
 pub const MOST_PENDING: usize = 4_096;

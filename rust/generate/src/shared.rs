@@ -1,6 +1,6 @@
 //! Sheets that tests of more than one crate run.
 
-use plain::{Module, Sheet, INPUT, LOW, UNKNOWN};
+use plain::{Module, Sheet, INPUT, LOW, NONE, UNKNOWN};
 
 use crate::sheets::*;
 
@@ -32,3 +32,29 @@ pub fn memory_after_gates(watched: &[u8]) -> Sheet {
     let drive = [(0, 0, 0), (4, 0, 1), (8, 0, 0)];
     sheet(&[INPUT, LOW, LOW, UNKNOWN], &modules, &drive, watched)
 }
+
+/// Document 02, W-203: node 0 is an input that never begins, node 1 one that begins at tick 3, node 2
+/// one that begins at once. A memory whose set is X alone catches node 2 into node 3, a tick later,
+/// as long as node 1 is not known; node 4 is the NAND of nodes 0 and 2.
+pub fn unknown_at_first() -> Sheet {
+    let modules = [memory(0b0100, [2, 1], 3, 1), gate(NAND, [0, 2], 4, 0)];
+    let drive = [(0, 2, 0), (2, 2, 1), (3, 1, 1), (4, 2, 0)];
+    let nodes = [INPUT, INPUT, INPUT, NONE, UNKNOWN];
+    sheet(&nodes, &modules, &drive, &[0, 1, 2, 3, 4])
+}
+
+/// What a run of [`unknown_at_first`] to horizon 6 lists.
+pub const UNKNOWN_AT_FIRST: [Record; 12] = [
+    (0, 0, 2),
+    (0, 1, 2),
+    (0, 2, 0),
+    (0, 3, 3),
+    (0, 4, 1),
+    (1, 3, 0),
+    (2, 2, 1),
+    (2, 4, 2),
+    (3, 1, 1),
+    (3, 3, 1),
+    (4, 2, 0),
+    (4, 4, 1),
+];

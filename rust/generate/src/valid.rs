@@ -4,7 +4,7 @@ use std::collections::BTreeMap;
 
 use plain::{Event, Module, Sheet, INPUT};
 
-use crate::{byte, Generator};
+use crate::{byte, Generator, Start};
 
 /// How large a sheet is made.
 #[derive(Debug, Clone, Copy, PartialEq, Eq)]
@@ -18,7 +18,7 @@ pub enum Size {
     /// 101 to 256 nodes.
     Large,
     /// Every section at its limit: 256 nodes, all watched, and either 256 modules and no input or
-    /// 255 modules, one input and 1,024 events.
+    /// 255 modules, one input and 1,024 events, or none.
     Full,
 }
 
@@ -32,6 +32,7 @@ struct Style {
     /// The values that nodes begin with and events have. Sheets with low and high alone are
     /// livelier.
     levels: &'static [u8],
+    starts: &'static [Start],
 }
 
 /// Low and high.
@@ -103,6 +104,7 @@ impl Generator {
             longest_delay: self.random.pick(&[1, 3, 10, 100, 10_000]),
             last_tick: self.random.pick(&last_ticks),
             levels: self.random.pick(&[DEFINED, MIXED]),
+            starts: self.starts(),
         }
     }
 
@@ -112,6 +114,7 @@ impl Generator {
             longest_delay: self.random.pick(&[1, 3, 10, 30]),
             last_tick: self.random.pick(&[8, 30, 60]),
             levels: self.random.pick(&[DEFINED, DEFINED, MIXED]),
+            starts: self.starts(),
         }
     }
 
@@ -198,20 +201,32 @@ impl Generator {
 
     fn drive(&mut self, size: Size, inputs: &[u8], style: &Style) -> Vec<Event> {
         let mut events = BTreeMap::new();
-        for &input in inputs {
-            events.insert((0, input), self.random.pick(style.levels));
+        let firsts = self.first_events(inputs, style);
+        for &(first, input) in &firsts {
+            events.insert((first, input), self.random.pick(style.levels));
         }
-        if !inputs.is_empty() {
-            let wanted = self.event_count(size, inputs.len());
+        if !firsts.is_empty() {
+            let wanted = self.event_count(size, firsts.len());
             for _ in 0..4 * wanted {
                 if events.len() < wanted {
-                    let key = (self.tick(style), self.random.pick(inputs));
+                    let (first, input) = self.random.pick(&firsts);
+                    let key = (self.tick(style).max(first), input);
                     events.insert(key, self.random.pick(style.levels));
                 }
             }
         }
         let event = |((tick, node), value)| Event { tick, node, value };
         events.into_iter().map(event).collect()
+    }
+
+    /// The first tick of each input that has an event, and the input.
+    fn first_events(&mut self, inputs: &[u8], style: &Style) -> Vec<(u32, u8)> {
+        let first = |&input: &u8| {
+            let start = self.random.pick(style.starts);
+            let tick = self.first_tick(start)?;
+            Some((tick, input))
+        };
+        inputs.iter().filter_map(first).collect()
     }
 
     fn tick(&mut self, style: &Style) -> u32 {

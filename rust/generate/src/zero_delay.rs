@@ -180,7 +180,7 @@ impl Generator {
             drive: Vec::new(),
             watched: Vec::new(),
         };
-        sheet.drive = self.first_events(&sheet);
+        sheet.drive = self.events_of_inputs(&sheet);
         sheet.watched = sheet.node_numbers().collect();
         let order = self.order(sheet.modules.len());
         let numbers = network.on_loops.iter().map(|&node| to[usize::from(node)]);
@@ -190,15 +190,17 @@ impl Generator {
         }
     }
 
-    /// An event at tick 0 for each input.
-    fn first_events(&mut self, sheet: &Sheet) -> Vec<Event> {
+    /// An event for each input that begins.
+    fn events_of_inputs(&mut self, sheet: &Sheet) -> Vec<Event> {
+        let starts = self.starts();
         let numbered = sheet.node_numbers().zip(&sheet.nodes);
         let inputs = numbered.filter(|(_, &byte)| byte == INPUT);
-        let event = |(node, _)| Event {
-            tick: 0,
-            node,
-            value: self.level(),
+        let event = |(node, _)| {
+            let start = self.random.pick(starts);
+            let tick = self.first_tick(start)?;
+            let value = self.level();
+            Some(Event { tick, node, value })
         };
-        inputs.map(event).collect()
+        inputs.filter_map(event).collect()
     }
 }

@@ -1,6 +1,6 @@
 //! Lively sheets and networks of gates are accepted, and much happens in them.
 
-use generate::{Generator, Size};
+use generate::{Generator, Size, Start};
 use plain::{check, Answer, Sheet};
 
 /// The changes of all nodes below the horizon.
@@ -30,7 +30,7 @@ fn lively_sheets_change_more_often() {
 fn gates_have_their_number_and_delays() {
     let mut generator = Generator::new(33);
     for gates in [1, 20, 255] {
-        let sheet = generator.gates(gates, 100);
+        let sheet = generator.gates(gates, 100, Start::AtOnce);
         assert_eq!((sheet.nodes.len(), sheet.modules.len()), (gates + 1, gates));
         let delays = sheet.modules.iter().map(|module| module.delay);
         assert!(delays.into_iter().all(|delay| (1..=100).contains(&delay)));

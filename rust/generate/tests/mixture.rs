@@ -5,15 +5,27 @@ use generate::Generator;
 #[test]
 fn every_refusal_is_met_often() {
     let mut generator = Generator::new(7);
-    let mut met = [0u32; 19];
+    let mut met = [[0u32; 19]; 2];
     for _ in 0..100_000 {
-        let [number, ..] = plain::check(&generator.any()).triple();
-        met[number as usize] += 1;
+        let sheet = generator.any();
+        let answers = [plain::check(&sheet), plain::check_strict(&sheet)];
+        for (met, answer) in met.iter_mut().zip(answers) {
+            let [number, ..] = answer.triple();
+            met[number as usize] += 1;
+        }
     }
-    println!("answers by number, 0 for accepted: {met:?}");
-    assert!(met[0] >= 10_000, "{met:?}");
-    assert_eq!(met[1], 0, "{met:?}");
-    assert!(met[2..].iter().all(|&times| times >= 100), "{met:?}");
+    println!("answers by number, 0 for accepted, plainly and strictly: {met:?}");
+    for (met, absent) in met.iter().zip([&[1, 15][..], &[1]]) {
+        assert!(met[0] >= 10_000, "{met:?}");
+        for (number, &times) in met.iter().enumerate() {
+            let enough = if absent.contains(&number) {
+                times == 0
+            } else {
+                times >= 100
+            };
+            assert!(enough, "{number}: {met:?}");
+        }
+    }
 }
 
 #[test]

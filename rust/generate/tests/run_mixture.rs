@@ -3,7 +3,7 @@
 use generate::{room_for_all, Generator, RunInput};
 
 #[test]
-fn every_refusal_but_19_is_met() {
+fn every_refusal_but_15_and_19_is_met() {
     let mut generator = Generator::new(31);
     let mut met = [0u32; 21];
     for _ in 0..20_000 {
@@ -14,10 +14,15 @@ fn every_refusal_but_19_is_met() {
     }
     println!("answers by number, 0 for finished: {met:?}");
     assert!(met[0] >= 10_000, "{met:?}");
-    assert_eq!(met[19], 0, "{met:?}");
-    let others = (1..=20).filter(|&number| number != 19);
-    for number in others {
-        assert!(met[number] >= 15, "{number}: {met:?}");
+    // 19 asks for a short buffer, and 15 for a strict check.
+    for number in 1..=20 {
+        let absent = [15, 19].contains(&number);
+        let enough = if absent {
+            met[number] == 0
+        } else {
+            met[number] >= 15
+        };
+        assert!(enough, "{number}: {met:?}");
     }
 }
 

@@ -3,7 +3,7 @@
 use generate::limits::RECORD_BYTES;
 use generate::sheets::{records, MEMORY};
 use generate::{Generator, Size};
-use plain::{in_set, renumbered, renumbered_listing, rule, Answer, Event, Module, Sheet};
+use plain::{in_set, renumbered, renumbered_listing, rule, Answer, Event, Module, Sheet, UNKNOWN};
 
 /// The byte that stands where nothing has been written.
 const UNTOUCHED: u8 = 0xA5;
@@ -67,7 +67,7 @@ fn by_equation(sheet: &Sheet, cells: &[Vec<u8>], node: u8, tick: usize) -> u8 {
 fn driven(drive: &[Event], node: u8, tick: usize) -> u8 {
     let begun = |event: &&Event| event.node == node && event.tick as usize <= tick;
     let latest = drive.iter().filter(begun).max_by_key(|event| event.tick);
-    latest.expect("an event at tick 0").value
+    latest.map_or(UNKNOWN, |event| event.value)
 }
 
 #[test]

@@ -2,7 +2,7 @@
 
 use std::collections::BTreeSet;
 
-use generate::{Generator, Size};
+use generate::{starts_of, Generator, Size, Start};
 use plain::{check, read, Answer, Sheet};
 
 /// So many sheets of a size, each seen to be accepted and to be read back as it was made.
@@ -51,7 +51,8 @@ fn full_ones() {
         assert_eq!(sheet.watched.len(), 256);
         match sheet.modules.len() {
             // The longest sheet that is accepted: one of 256 modules has no input to drive.
-            255 => assert_eq!(sheet.encode().len(), 8_449),
+            255 if starts_of(&sheet) != [Start::Never] => assert_eq!(sheet.encode().len(), 8_449),
+            255 => assert_eq!(sheet.drive, []),
             256 => assert_eq!(sheet.drive, []),
             other => panic!("{other} modules"),
         }
@@ -60,7 +61,7 @@ fn full_ones() {
 
 #[test]
 fn every_kind_with_and_without_delay() {
-    let sheets = accepted(6, Size::Small, 5_000);
+    let sheets = accepted(6, Size::Small, 10_000);
     let modules: Vec<_> = sheets.iter().flat_map(|sheet| &sheet.modules).collect();
     for kind in 0..=9 {
         for delays in [0..=0, 1..=9, 10..=9_999, 10_000..=10_000] {

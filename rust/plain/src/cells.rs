@@ -104,11 +104,8 @@ fn source(sheet: &Sheet, node: u8) -> Source<'_> {
     }
 }
 
-/// The value of the latest event with a tick of at most `tick`.
+/// The value of the latest event with a tick of at most `tick`. An input is X until its first event.
 fn latest(events: &[&Event], tick: usize) -> u8 {
     let begun = events.partition_point(|event| event.tick as usize <= tick);
-    events[..begun]
-        .last()
-        .expect("every input has an event at tick 0")
-        .value
+    events[..begun].last().map_or(UNKNOWN, |event| event.value)
 }

@@ -1,6 +1,6 @@
 //! The plain cell-by-cell simulator of timing networks.
 //!
-//! Written from document 01 alone and kept literal rather than fast, so that it can be the
+//! Written from documents 01 and 02 alone and kept literal rather than fast, so that it can be the
 //! yardstick for the proved library: the whole history of every node is kept, a memory searches
 //! back through it, and pending changes are counted from differences of cells.
 
@@ -28,7 +28,7 @@ pub use level::{HIGH, LOW, NONE, UNKNOWN};
 pub use listing::run;
 pub use pending::pending;
 pub use program::program;
-pub use read::{check, read};
+pub use read::{check, check_strict, read};
 pub use renumber::{renumbered, renumbered_listing};
 pub use sentence::{describe, phrase, sentence};
 pub use sheet::{Event, Module, Sheet, INPUT};

@@ -1,4 +1,5 @@
-//! Reading a sheet: refusals 2 to 18, in the order in which they are met.
+//! Reading a sheet: refusals 2 to 18, in the order in which they are met. Of them 15 is met by a
+//! strict check alone.
 
 use crate::answer::Answer;
 use crate::reader::Reader;
@@ -7,7 +8,16 @@ use crate::zero_delay;
 
 /// Checks the sheet without running it.
 pub fn check(sheet: &[u8]) -> Answer {
-    match read(sheet) {
+    answer(read(sheet))
+}
+
+/// Checks the sheet and that every input has an event at tick 0: refusal 15 otherwise.
+pub fn check_strict(sheet: &[u8]) -> Answer {
+    answer(read_then(sheet, every_input_begins))
+}
+
+fn answer(read: Result<Sheet, Answer>) -> Answer {
+    match read {
         Ok(_) => Answer::Ran { count: 0 },
         Err(refusal) => refusal,
     }
@@ -15,6 +25,11 @@ pub fn check(sheet: &[u8]) -> Answer {
 
 /// The sheet that the bytes hold, or the one refusal they meet.
 pub fn read(sheet: &[u8]) -> Result<Sheet, Answer> {
+    read_then(sheet, |_| Ok(()))
+}
+
+/// Reads front to back. What is asked after the drive is given.
+fn read_then(sheet: &[u8], after_drive: fn(&Sheet) -> Result<(), Answer>) -> Result<Sheet, Answer> {
     let mut reader = Reader::new(sheet);
     let mut sheet = Sheet::default();
     read_nodes(&mut reader, &mut sheet)?;
@@ -125,7 +140,7 @@ fn event_refusal(event: &Event, sheet: &Sheet) -> Option<u32> {
 }
 
 /// Refusal 15: every input has an event at tick 0.
-fn after_drive(sheet: &Sheet) -> Result<(), Answer> {
+fn every_input_begins(sheet: &Sheet) -> Result<(), Answer> {
     for node in sheet.node_numbers() {
         let starts = sheet.drive.iter().any(|event| event.key() == (0, node));
         if sheet.has_input(node) && !starts {

@@ -62,7 +62,7 @@ impl Sheet {
     }
 
     /// Whether `node` is an input of the sheet.
-    pub(crate) fn has_input(&self, node: u8) -> bool {
+    pub fn has_input(&self, node: u8) -> bool {
         self.has_node(node) && self.driver(node).is_none()
     }
 }

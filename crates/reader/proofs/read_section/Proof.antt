@@ -114,10 +114,10 @@ module _ {M : Type 1} (𝓤 : URA M) (H : Heap 𝓤) (A : Atoms 𝓤) (W : Given
 
   -- what is required of the reader, and what the callee ensures
   abbrev Asked : Type 0
-  Asked = ReadTo (k .edition) (now (d .bytes)) n k × (k .at ≡ d .at) × (n < 4)
+  Asked = ReadTo (k .strict) (k .edition) (now (d .bytes)) n k × (k .at ≡ d .at) × (n < 4)
 
   abbrev Told : Reading → Type 0
-  Told r = ReadTo (k .edition) (now (d .bytes)) (n + 1) r
+  Told r = ReadTo (k .strict) (k .edition) (now (d .bytes)) (n + 1) r
 
   asked : Asked → ent 𝓤 (onEntry 𝓤 H A read.signature (κ, tt) (q, tt) (d .bytes, (d .at, (n, (k, tt)))) passed) (Read 𝓤 H A mem run .pre to)
   asked pre = qed W ((‵ (flft κ q) ⊛ ‵ ftrue) ∷ ‵ (owns (ShrSlice (named 0) κ u8 ∷ u32 ∷ u8 ∷ N.the-row ∷ []) (d .bytes, (d .at, (n, (k, tt)))) passed) ∷ []) ∵ says ! pre $ frame ! $ done !

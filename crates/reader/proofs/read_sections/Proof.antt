@@ -1,6 +1,7 @@
 -- `reader::read_sections` meets its contract: a walk of its MIR, by hand. A reader is made of the bytes and 0, and each of the four calls of `read_section` is passed the reader and the reading that the one before gave.
 -- All that the proof knows of `read_section` is that it meets its contract. What a call leaves is opened by one lemma (`leaves`), and what the next one asks is shown by another (`goes`). In a local MIR erases the lifetime of a struct's type.
 -- Assumes nothing.
+use mathlib.Core.Bool.{Bool}
 use mathlib.Core.Path.{_≡_, refl, ap, _∙_, subst, sym}
 use Prim.Native.Nat.{ℕ, _+_, _<_, _^_}
 use mathlib.Core.List.{List, [], _∷_}
@@ -42,6 +43,7 @@ use denote.Exit.{yes}
 use denote.Triple.Clauses.{ensured, lasts}
 use Rattle.sheet.specs.declared.Edition.{Edition}
 use Rattle.reader.specs.Read.{ReadTo}
+use Rattle.reader.proofs.SectionRows.{asked}
 use Rattle.reader.specs.declared.sections.Reading.{Reading}
 use Rattle.reader.specs.declared.SheetReader.{SheetReader}
 use Rattle.reader.specs.declared.Section.{Section}
@@ -64,9 +66,9 @@ use Rattle.reader.proofs.read_sections.Code as code
 abbrev stayed : Stays (sections.ended .signature .params) (sections.ended .kept)
 stayed = (stay-none-slice (0 ∷ []) tt (plain (λ _. u8)) yes, (stay-none (λ _. N.the-row) yes, tt))
 
--- the same edition and bytes
-carried : {e e′ : Edition} {s s′ : RefT (List ℕ)} {n : ℕ} {r : Reading} → e ≡ e′ → s ≡ s′ → ReadTo e (now s) n r → ReadTo e′ (now s′) n r
-carried {e′} {s} {n} {r} for same told = subst (λ (x : RefT (List ℕ)). ReadTo e′ (now x) n r) same (subst (λ (x : Edition). ReadTo x (now s) n r) for told)
+-- the same strictness, edition and bytes
+carried : {b b′ : Bool} {e e′ : Edition} {s s′ : RefT (List ℕ)} {n : ℕ} {r : Reading} → b ≡ b′ → e ≡ e′ → s ≡ s′ → ReadTo b e (now s) n r → ReadTo b′ e′ (now s′) n r
+carried {b′} {e′} {n} {r} alike for same told = subst (λ (x : RefT (List ℕ)). ReadTo b′ e′ (now x) n r) same (asked alike for told)
 
 module _ {M : Type 1} (𝓤 : URA M) (H : Heap 𝓤) (A : Atoms 𝓤) (mem : Memory → SProp 𝓤) (run : Routine → Fun 𝓤) where
   -- the contract that the proof cites
@@ -89,11 +91,11 @@ module _ {M : Type 1} (𝓤 : URA M) (H : Heap 𝓤) (A : Atoms 𝓤) (W : Given
   Reader d = T.the-row α .own d (spelt d ∷ [])
 
   -- what is told of a result over the bytes, and what the next call asks
-  abbrev Told : Edition → RefT (List ℕ) → ℕ → Section → Type 0
-  Told e s n r = ReadTo e (now s) n (r .reading) × (r .rest .bytes ≡ s) × (r .reading .at ≡ r .rest .at)
+  abbrev Told : Bool → Edition → RefT (List ℕ) → ℕ → Section → Type 0
+  Told b e s n r = ReadTo b e (now s) n (r .reading) × (r .rest .bytes ≡ s) × (r .reading .at ≡ r .rest .at)
 
-  next : {e : Edition} {s : RefT (List ℕ)} (n : ℕ) (r : Section) → Told e s n r → n < 4 → ReadTo (r .reading .edition) (now (r .rest .bytes)) n (r .reading) × (r .reading .at ≡ r .rest .at) × (n < 4)
-  next n r told l = (carried (sym (told .0 .edition)) (sym (told .1)) (told .0), told .2, l)
+  next : {b : Bool} {e : Edition} {s : RefT (List ℕ)} (n : ℕ) (r : Section) → Told b e s n r → n < 4 → ReadTo (r .reading .strict) (r .reading .edition) (now (r .rest .bytes)) n (r .reading) × (r .reading .at ≡ r .rest .at) × (n < 4)
+  next n r told l = (carried (sym (told .0 .strictness)) (sym (told .0 .edition)) (sym (told .1)) (told .0), told .2, l)
 
   -- a call of `read_section`: what it is passed, what it asks, and what it says of its result
   module _ (d : SheetReader) (n : ℕ) (k : Reading) where
@@ -104,10 +106,10 @@ module _ {M : Type 1} (𝓤 : URA M) (H : Heap 𝓤) (A : Atoms 𝓤) (W : Given
     to = (((κ, tt), (q, tt), tt, (d, (n, (k, tt))), passed), tt)
 
     abbrev Asked : Type 0
-    Asked = ReadTo (k .edition) (now (d .bytes)) n k × (k .at ≡ d .at) × (n < 4)
+    Asked = ReadTo (k .strict) (k .edition) (now (d .bytes)) n k × (k .at ≡ d .at) × (n < 4)
 
     abbrev Said : Section → Type 0
-    Said r = Told (k .edition) (d .bytes) (n + 1) r
+    Said r = Told (k .strict) (k .edition) (d .bytes) (n + 1) r
 
     goes : Asked → n < 2 ^ 8 → Known k → ent 𝓤 (⋆ 𝓤 H A (‵ (Reader d) ∷ (‵ (flft κ q) ⊛ ‵ ftrue) ∷ [])) (ReadSection 𝓤 H A mem run .pre to)
     goes pre small is =
@@ -118,14 +120,14 @@ module _ {M : Type 1} (𝓤 : URA M) (H : Heap 𝓤) (A : Atoms 𝓤) (W : Given
     said r = exE 𝓤 _ (λ ws. snd∗ 𝓤 (sem 𝓤 H A (lasts section.ended (κ, tt) (d, (n, (k, tt))) ws)) (fact 𝓤 (Said r)))
 
     -- what it leaves at the machine value u: a result, what is told of it over the bytes s that were passed, what its reader owns, and the token
-    leaves : {e : Edition} {s : RefT (List ℕ)} → k .edition ≡ e → d .bytes ≡ s → {K : Type 0} {Γ : List (Item 𝓤)} {G : Goal 𝓤 H} → K → Soaks G → (u : Val)
-        → ((r : Section) → Told e s (n + 1) r → Is (S.the-row α) r (u ∷ []) → Seq K W (‵ (Reader (r .rest)) ∷ (‵ (flft κ q) ⊛ ‵ ftrue) ∷ Γ) G)
+    leaves : {b : Bool} {e : Edition} {s : RefT (List ℕ)} → k .strict ≡ b → k .edition ≡ e → d .bytes ≡ s → {K : Type 0} {Γ : List (Item 𝓤)} {G : Goal 𝓤 H} → K → Soaks G → (u : Val)
+        → ((r : Section) → Told b e s (n + 1) r → Is (S.the-row α) r (u ∷ []) → Seq K W (‵ (Reader (r .rest)) ∷ (‵ (flft κ q) ⊛ ‵ ftrue) ∷ Γ) G)
         → Seq K W (raw (ReadSection 𝓤 H A mem run .post to u) ∷ Γ) G
-    leaves for same t z u go =
+    leaves alike for same t z u go =
         use1 W (later (some (λ (r : Section). ((‵ (flft κ q) ⊛ ‵ ftrue) ⊛ ‵ (S.the-row α .own r (u ∷ []))) ⊛ raw (ensured 𝓤 H A section.ended (section.clauses 𝓤 H A mem run) (κ, tt) (d, (n, (k, tt))) tt r)))) (id⊢ 𝓤 _) $ await t z $ pick t (λ r.
         split t $ move t (1 ∷ []) $ use1 W (raw (fact 𝓤 (Said r))) (said r) $ heard t (Said r) (λ e. split t $ move t (1 ∷ []) $ peeks t (S.the-row α) (Is (S.the-row α)) (shows 𝓤 H A (S.the-row α)) r (u ∷ []) (λ is.
         use1 W (given (u ∷ [] ≡ LL.vals (S.the-type α) (S′.the-laws α) r) (‵ (all-own (S.the-type α .parts) (S′.the-laws α) (r .reading, (r .rest, tt))))) (own-open 𝓤 H A W (S.the-type α) (S′.the-laws α) (r .reading, (r .rest, tt)) u) $ learn t (λ _.
-        fsplit t $ drop t $ fsplit t $ move t (1 ∷ []) $ drop t $ go r (carried for same (e .0), e .1 ∙ same, e .2) is))))
+        fsplit t $ drop t $ fsplit t $ move t (1 ∷ []) $ drop t $ go r (carried alike for same (e .0), e .1 ∙ same, e .2) is))))
 
   -- of a result: its machine value written out, its fields' relations, and their types in a local
   module _ (r : Section) {u : Val} (is : Is (S.the-row α) r (u ∷ [])) where
@@ -157,7 +159,7 @@ module _ {M : Type 1} (𝓤 : URA M) (H : Heap 𝓤) (A : Atoms 𝓤) (W : Given
     all = record { bytes = s; at = 0 }
 
     abbrev Needed : Type 0
-    Needed = ReadTo (k .edition) (now s) 0 k × (k .at ≡ 0)
+    Needed = ReadTo (k .strict) (k .edition) (now s) 0 k × (k .at ≡ 0)
 
     starts : Needed → ent 𝓤 (onEntry 𝓤 H A sections.signature (κ, tt) (q, tt) (s, (k, tt)) at) (sep 𝓤 (ReadSection 𝓤 H A mem run .pre (to all 0 k)) (sem 𝓤 H A Own))
     starts pre =
@@ -167,7 +169,7 @@ module _ {M : Type 1} (𝓤 : URA M) (H : Heap 𝓤) (A : Atoms 𝓤) (W : Given
         nothing ! $ owned ! u32 (Is u32) (uint-makes 𝓤 H A W w32) 0 _ (refl, lit< tt) $ fjoin ! $ move ! (1 ∷ 0 ∷ []) $ fjoin ! $ use1 W (‵ (Reader all)) (own-shut 𝓤 H A W (T.the-type α) (T′.the-laws α) (s, (0, tt))) $
         move ! (0 ∷ 2 ∷ []) $ use2 W (raw (ReadSection 𝓤 H A mem run .pre (to all 0 k))) (goes all 0 k (pre .0, pre .1, lit< tt) (lit< tt) is-known) $ frame ! $ done !
 
-    exits : (r : Reading) → Known r → ReadTo (k .edition) (now s) 4 r → ent 𝓤 (⋆ 𝓤 H A ((‵ (flft κ q) ⊛ ‵ ftrue) ∷ ‵ Own ∷ [])) (Post (val r))
+    exits : (r : Reading) → Known r → ReadTo (k .strict) (k .edition) (now s) 4 r → ent 𝓤 (⋆ 𝓤 H A ((‵ (flft κ q) ⊛ ‵ ftrue) ∷ ‵ Own ∷ [])) (Post (val r))
     exits r is told =
         qed W ((‵ (flft κ q) ⊛ ‵ ftrue) ∷ ‵ Own ∷ []) ∵
         suffices ! _ (ends-at 𝓤 H A sections.ended stayed (sections.clauses 𝓤 H A mem run) W (((κ, tt), (q, tt), tt, (s, (k, tt)), at), tt) (val r) r (tt, (tt, tt)) (tt, (tt, tt))) $ says ! told $ frame ! $
@@ -183,28 +185,28 @@ module _ {M : Type 1} (𝓤 : URA M) (H : Heap 𝓤) (A : Atoms 𝓤) (W : Given
           assigns ! (agg ! (and-then ! (load ! (from ! (stop !)) (look ! 24 refl)) (and-then ! (lit ! tt) (no-more !)))) (from ! (stop !)) (init ! 12 refl (tt, (shr-slice-lawful 𝓤 H A W (named 0) κ u8 .typed s (v ∷ []) p .0 .1, (record { fits = lit< tt }, tt)))) $
           move ! (28 ∷ []) $ use1 W (raw (ReadSection 𝓤 H A mem run .pre (to all 0 k)) ⊛ ‵ Own) (starts pre) $ split ! $
           -- nodes: [what the call asks; what the bytes own; _13; …]
-          calls-at ! fm (ReadSection 𝓤 H A mem run) met (to all 0 k) (and-then ! (load ! (from ! (stop !)) (look ! 14 refl)) (and-then ! (lit ! tt) (and-then ! (load ! (from ! (stop !)) (look ! 24 refl)) (no-more !)))) (λ u₀. leaves all 0 k refl refl ! tt u₀ (λ r₀ e₀ is₀.
+          calls-at ! fm (ReadSection 𝓤 H A mem run) met (to all 0 k) (and-then ! (load ! (from ! (stop !)) (look ! 14 refl)) (and-then ! (lit ! tt) (and-then ! (load ! (from ! (stop !)) (look ! 24 refl)) (no-more !)))) (λ u₀. leaves all 0 k refl refl refl ! tt u₀ (λ r₀ e₀ is₀.
           -- [what the reader owns; the token; what the bytes own; _13; …]
           land ! (from ! (stop !)) (init ! 23 refl (LL.lawful (S.the-type αᵉ) (S′.the-laws αᵉ) 𝓤 H A W .typed r₀ _ is₀ .0)) $ rewrite ! 23 (λ (x : Val). ‵ (fat fullShare (S′.mir erased) l₃ 0 x)) (whole-is r₀ is₀) refl $
           assigns ! (of-opd ! (load ! (from ! (fld ! refl (stop !))) (look-in ! 23 (sub ! 1 refl (whole !))))) (from ! (stop !)) (init ! 13 refl (LL.lawful (T.the-type αᵉ) (T′.the-laws αᵉ) 𝓤 H A W .typed (r₀ .rest) _ (rest-is r₀ is₀) .0)) $
           assigns ! (of-opd ! (load ! (from ! (fld ! refl (stop !))) (look-in ! 23 (sub ! 0 refl (whole !))))) (from ! (stop !)) (init ! 11 refl (LL.lawful N.the-type N′.the-laws 𝓤 H A W .typed (r₀ .reading) _ (reading-is r₀ is₀) .0)) $
           use2 W (raw (ReadSection 𝓤 H A mem run .pre (to (r₀ .rest) 1 (r₀ .reading)))) (goes (r₀ .rest) 1 (r₀ .reading) (next 1 r₀ e₀ (lit< tt)) (lit< tt) (reading-is r₀ is₀)) $
           -- modules: [what the call asks; what the bytes own; _13; …]
-          calls-at ! fm (ReadSection 𝓤 H A mem run) met (to (r₀ .rest) 1 (r₀ .reading)) (and-then ! (load ! (from ! (stop !)) (look ! 12 refl)) (and-then ! (lit ! tt) (and-then ! (load ! (from ! (stop !)) (look ! 10 refl)) (no-more !)))) (λ u₁. leaves (r₀ .rest) 1 (r₀ .reading) (e₀ .0 .edition) (e₀ .1) ! tt u₁ (λ r₁ e₁ is₁.
+          calls-at ! fm (ReadSection 𝓤 H A mem run) met (to (r₀ .rest) 1 (r₀ .reading)) (and-then ! (load ! (from ! (stop !)) (look ! 12 refl)) (and-then ! (lit ! tt) (and-then ! (load ! (from ! (stop !)) (look ! 10 refl)) (no-more !)))) (λ u₁. leaves (r₀ .rest) 1 (r₀ .reading) (e₀ .0 .strictness) (e₀ .0 .edition) (e₀ .1) ! tt u₁ (λ r₁ e₁ is₁.
           -- [what the reader owns; the token; what the bytes own; _13; …]
           land ! (from ! (stop !)) (init ! 21 refl (LL.lawful (S.the-type αᵉ) (S′.the-laws αᵉ) 𝓤 H A W .typed r₁ _ is₁ .0)) $ rewrite ! 21 (λ (x : Val). ‵ (fat fullShare (S′.mir erased) l₄ 0 x)) (whole-is r₁ is₁) refl $
           assigns ! (of-opd ! (load ! (from ! (fld ! refl (stop !))) (look-in ! 21 (sub ! 1 refl (whole !))))) (from ! (stop !)) (init ! 9 refl (LL.lawful (T.the-type αᵉ) (T′.the-laws αᵉ) 𝓤 H A W .typed (r₁ .rest) _ (rest-is r₁ is₁) .0)) $
           assigns ! (of-opd ! (load ! (from ! (fld ! refl (stop !))) (look-in ! 21 (sub ! 0 refl (whole !))))) (from ! (stop !)) (init ! 7 refl (LL.lawful N.the-type N′.the-laws 𝓤 H A W .typed (r₁ .reading) _ (reading-is r₁ is₁) .0)) $
           use2 W (raw (ReadSection 𝓤 H A mem run .pre (to (r₁ .rest) 2 (r₁ .reading)))) (goes (r₁ .rest) 2 (r₁ .reading) (next 2 r₁ e₁ (lit< tt)) (lit< tt) (reading-is r₁ is₁)) $
           -- drive: [what the call asks; what the bytes own; _13; …]
-          calls-at ! fm (ReadSection 𝓤 H A mem run) met (to (r₁ .rest) 2 (r₁ .reading)) (and-then ! (load ! (from ! (stop !)) (look ! 8 refl)) (and-then ! (lit ! tt) (and-then ! (load ! (from ! (stop !)) (look ! 6 refl)) (no-more !)))) (λ u₂. leaves (r₁ .rest) 2 (r₁ .reading) (e₁ .0 .edition) (e₁ .1) ! tt u₂ (λ r₂ e₂ is₂.
+          calls-at ! fm (ReadSection 𝓤 H A mem run) met (to (r₁ .rest) 2 (r₁ .reading)) (and-then ! (load ! (from ! (stop !)) (look ! 8 refl)) (and-then ! (lit ! tt) (and-then ! (load ! (from ! (stop !)) (look ! 6 refl)) (no-more !)))) (λ u₂. leaves (r₁ .rest) 2 (r₁ .reading) (e₁ .0 .strictness) (e₁ .0 .edition) (e₁ .1) ! tt u₂ (λ r₂ e₂ is₂.
           -- [what the reader owns; the token; what the bytes own; _13; …]
           land ! (from ! (stop !)) (init ! 19 refl (LL.lawful (S.the-type αᵉ) (S′.the-laws αᵉ) 𝓤 H A W .typed r₂ _ is₂ .0)) $ rewrite ! 19 (λ (x : Val). ‵ (fat fullShare (S′.mir erased) l₅ 0 x)) (whole-is r₂ is₂) refl $
           assigns ! (of-opd ! (load ! (from ! (fld ! refl (stop !))) (look-in ! 19 (sub ! 1 refl (whole !))))) (from ! (stop !)) (init ! 5 refl (LL.lawful (T.the-type αᵉ) (T′.the-laws αᵉ) 𝓤 H A W .typed (r₂ .rest) _ (rest-is r₂ is₂) .0)) $
           assigns ! (of-opd ! (load ! (from ! (fld ! refl (stop !))) (look-in ! 19 (sub ! 0 refl (whole !))))) (from ! (stop !)) (init ! 3 refl (LL.lawful N.the-type N′.the-laws 𝓤 H A W .typed (r₂ .reading) _ (reading-is r₂ is₂) .0)) $
           use2 W (raw (ReadSection 𝓤 H A mem run .pre (to (r₂ .rest) 3 (r₂ .reading)))) (goes (r₂ .rest) 3 (r₂ .reading) (next 3 r₂ e₂ (lit< tt)) (lit< tt) (reading-is r₂ is₂)) $
           -- watched: [what the call asks; what the bytes own; _13; …]
-          calls-at ! fm (ReadSection 𝓤 H A mem run) met (to (r₂ .rest) 3 (r₂ .reading)) (and-then ! (load ! (from ! (stop !)) (look ! 4 refl)) (and-then ! (lit ! tt) (and-then ! (load ! (from ! (stop !)) (look ! 2 refl)) (no-more !)))) (λ u₃. leaves (r₂ .rest) 3 (r₂ .reading) (e₂ .0 .edition) (e₂ .1) ! tt u₃ (λ r₃ e₃ is₃.
+          calls-at ! fm (ReadSection 𝓤 H A mem run) met (to (r₂ .rest) 3 (r₂ .reading)) (and-then ! (load ! (from ! (stop !)) (look ! 4 refl)) (and-then ! (lit ! tt) (and-then ! (load ! (from ! (stop !)) (look ! 2 refl)) (no-more !)))) (λ u₃. leaves (r₂ .rest) 3 (r₂ .reading) (e₂ .0 .strictness) (e₂ .0 .edition) (e₂ .1) ! tt u₃ (λ r₃ e₃ is₃.
           -- [what the reader owns; the token; what the bytes own; _13; …]
           land ! (from ! (stop !)) (init ! 17 refl (LL.lawful (S.the-type αᵉ) (S′.the-laws αᵉ) 𝓤 H A W .typed r₃ _ is₃ .0)) $ rewrite ! 17 (λ (x : Val). ‵ (fat fullShare (S′.mir erased) l₆ 0 x)) (whole-is r₃ is₃) refl $
           drop ! $ assigns ! (of-opd ! (load ! (from ! (fld ! refl (stop !))) (look-in ! 16 (sub ! 0 refl (whole !))))) (from ! (stop !)) (init ! 28 refl (LL.lawful N.the-type N′.the-laws 𝓤 H A W .typed (r₃ .reading) _ (reading-is r₃ is₃) .0)) $

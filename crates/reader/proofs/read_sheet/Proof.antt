@@ -1,8 +1,8 @@
 -- `reader::read_sheet` meets its contract: the four sections' rows are all the bytes' rows. Assumes nothing.
-use mathlib.Core.Path.{sym, subst}
+use mathlib.Core.Path.{sym}
 use borrow.Author.Needs.{needs}
-use Rattle.sheet.specs.declared.Edition.{Edition}
 use Rattle.reader.specs.Read.{ReadTo}
+use Rattle.reader.proofs.SectionRows.{asked}
 use Rattle.reader.proofs.Whole.{whole-refused, whole-held}
 use Rattle.reader.proofs.read_sheet.Statement.{statement}
 use Rattle.reader.proofs.read_sheet.Tie as tie
@@ -14,12 +14,11 @@ read-sections-requires : tie.Need-read-sections-requires
 read-sections-requires c κs =
     let told = c .unread .ensures in
     let s = c .before .before .args .bytes .now in
-    (subst (λ (e : Edition). ReadTo e s 0 (c .unread .result)) (sym (told .1)) (told .2 s), told .0)
+    (asked (sym (told .1)) (sym (told .2)) (told .3 s), told .0)
 
--- the sections are those of the edition that was asked for
-sections : (c : tie.After-read-sections) → let args = c .before .before .before .args in ReadTo (args .e) (args .bytes .now) 4 (c .read-sections .result)
-sections c =
-    subst (λ (e : Edition). ReadTo e (c .before .before .before .args .bytes .now) 4 (c .read-sections .result)) (c .before .unread .ensures .1) (c .read-sections .ensures)
+-- the sections are read as they were asked for
+sections : (c : tie.After-read-sections) → let args = c .before .before .before .args in ReadTo (args .strict) (args .e) (args .bytes .now) 4 (c .read-sections .result)
+sections c = let told = c .before .unread .ensures in asked (told .1) (told .2) (c .read-sections .ensures)
 
 enum-told : tie.Need-enum-told
 enum-told c = search needs

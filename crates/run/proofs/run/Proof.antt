@@ -1,5 +1,6 @@
 -- `run::run` meets its contract: the horizon, the bytes' refusals, a zero-delay loop, and then the ticks. Assumes nothing.
 use borrow.Author.Needs.{needs}
+use mathlib.Core.Bool.{false}
 use mathlib.Core.Path.{_≡_, sym, ap, _∙_, subst}
 use Prim.Native.Nat.{_<_, _≤_}
 use native.Mathlib.Omega.{arith}
@@ -7,7 +8,7 @@ use lib.ListN.{length, take}
 use Rattle.sheet.specs.Limits.{greatestHorizon}
 use Rattle.sheet.specs.Layout.{sheetOf}
 use Rattle.sheet.specs.Outcome.{outcomeOf}
-use Rattle.sheet.specs.Refusal.{bytesRows, loopsSection, rows, checked}
+use Rattle.sheet.specs.Refusal.{bytesRows, loopsSection, rows, checkedBy, checked}
 use Rattle.sheet.specs.Contents.{Holds}
 use Rattle.sheet.specs.WorkingOrder.{inWorkingOrder}
 use Rattle.sheet.proofs.Rows.{passed, stopped, went-on}
@@ -43,13 +44,13 @@ enum-told-2 : tie.Need-enum-told-2
 enum-told-2 c = search needs
 
 returns-3 : tie.Need-returns-3
-unfolding checked rows
+unfolding checkedBy rows
 returns-3 c =
     let a = c .before .before .before .before .before .before .before .args in
     let s = a .bytes .now in
     let r = c .before .before .read-sheet in
     not-accepted (a .edition) s (a .horizon) (a .listing .now) (c .before .before .before .before .if1 .left) (c .before .before .before .if2 .left) (r .result .answer)
-    (stopped (bytesRows (a .edition) s) _ (r .ensures .answered) _ _ _ (c .enum-told2 .given .1) (loopsSection (sheetOf (a .edition) s))) (c .enum-told2 .given .1)
+    (stopped (bytesRows false (a .edition) s) _ (r .ensures .answered) _ _ _ (c .enum-told2 .given .1) (loopsSection (sheetOf (a .edition) s))) (c .enum-told2 .given .1)
 
 arranged-requires : tie.Need-arranged-requires
 arranged-requires c κs = search needs
@@ -67,7 +68,7 @@ held-by c =
     sheet-held (a .edition) (a .bytes .now) (c .before .before .before .before .before .before .before .read-sheet .ensures) (c .before .before .before .before .before .enum-told .given .1) .0
 
 checked-by : (c : tie.After-arranged) → outcomeOf (c .arranged .result) ≡ checked (c .before .before .before .before .before .before .before .before .before .before .before .before .args .edition) (c .before .before .before .before .before .before .before .before .before .before .before .before .args .bytes .now)
-unfolding checked rows
+unfolding checkedBy rows
 checked-by c =
     let a = c .before .before .before .before .before .before .before .before .before .before .before .before .args in
     let s = a .bytes .now in
@@ -75,7 +76,7 @@ checked-by c =
     let r = c .before .before .before .before .before .before .before .read-sheet in
     let told = c .before .before .before .before .before .enum-told .given .1 in
     let held = sheet-held (a .edition) s (r .ensures) told in
-    went-on (bytesRows (a .edition) s) (loopsSection S) _ (r .ensures .answered) _ told _
+    went-on (bytesRows false (a .edition) s) (loopsSection S) _ (r .ensures .answered) _ told _
     (c .arranged .ensures S (network-held S (r .result .contents) (held .0) (held .1 .nodes)) .answered)
 
 returns-4 : tie.Need-returns-4
@@ -88,7 +89,7 @@ in-working-order-requires : tie.Need-in-working-order-requires
 in-working-order-requires c κs = search needs
 
 run-accepted-requires : tie.Need-run-accepted-requires
-unfolding checked
+unfolding checkedBy
 run-accepted-requires c κs =
     let m = c .before .before .before .before .before in
     let a = c .before .before .before .before .before .before .before .before .before .before .before .before .before .before .before .before .before .args in
@@ -97,7 +98,7 @@ run-accepted-requires c κs =
     let r = c .before .before .before .before .before .before .before .before .before .before .before .before .read-sheet in
     let contents = r .result .contents in
     let held = sheet-held (a .edition) s (r .ensures) (c .before .before .before .before .before .before .before .before .before .before .enum-told .given .1) in
-    let acc = accepted (a .edition) (c .before .before .before .before .before .before .before .before .before .before .before .before .before .before .before .before .before .pre) s (passed (rows (a .edition) s) _ (checked-by m) _ (c .before .before .before .enum-told3 .given .1)) .sheet in
+    let acc = accepted (a .edition) (c .before .before .before .before .before .before .before .before .before .before .before .before .before .before .before .before .before .pre) s (passed (rows false (a .edition) s) _ (checked-by m) _ (c .before .before .before .enum-told3 .given .1)) .sheet in
     let arranged = m .arranged .ensures S (network-held S contents (held .0) (held .1 .nodes)) in
     let records = c .before .in-working-order .result in
     subst (λ T. Accepted T × Holds T contents × (0 < a .horizon) × (a .horizon ≤ greatestHorizon) × (take (contents .counts .modules) records ≡ inWorkingOrder T)) (sym (held-is S contents (held .0))) (
@@ -113,7 +114,7 @@ same-length : tie.Need-same-length
 same-length c = search needs
 
 returns-5 : tie.Need-returns-5
-unfolding checked
+unfolding checkedBy
 returns-5 c =
     let m = c .before .before .before .before .before .before .before .before in
     let a = c .before .before .before .before .before .before .before .before .before .before .before .before .before .before .before .before .before .before .before .before .args in
@@ -122,7 +123,7 @@ returns-5 c =
     let contents = c .before .before .before .before .before .before .before .before .before .before .before .before .before .before .before .read-sheet .result .contents in
     let done = c .before .before .run-accepted in
     accepted-leaves (a .edition) s (a .horizon) (a .listing .now) (c .before .before .before .before .before .before .before .before .before .before .before .before .before .before .before .before .before .if1 .left) (c .before .before .before .before .before .before .before .before .before .before .before .before .before .before .before .before .if2 .left)
-    (passed (rows (a .edition) s) _ (checked-by m) _ (c .before .before .before .before .before .before .enum-told3 .given .1))
+    (passed (rows false (a .edition) s) _ (checked-by m) _ (c .before .before .before .before .before .before .enum-told3 .given .1))
     (subst (λ T. Leaves (ranSheet T (a .horizon) (length (a .listing .now))) (a .listing .now) (outcomeOf (done .result)) (done .last .1 .1 .1 .0)) (held-is S contents (held-by m)) (done .ensures))
 
 pub run-spec : {M : Type 1} → statement M

@@ -42,7 +42,12 @@ fn symbols(wanted: &str) -> Vec<String> {
 fn what_it_offers_and_asks_for() {
     assert_eq!(
         symbols("T"),
-        ["timing_check", "timing_describe", "timing_run"]
+        [
+            "timing_check",
+            "timing_check_strict",
+            "timing_describe",
+            "timing_run"
+        ]
     );
     assert_eq!(symbols("U"), ["memcpy", "memset"]);
 }

@@ -3,6 +3,7 @@
  * three words in a line and, where a buffer is lent, every byte of it in hexadecimal in a second one.
  *
  *     calls check
+ *     calls check_strict
  *     calls run HORIZON BYTES
  *     calls describe NUMBER PLACE COUNT BYTES
  */
@@ -17,7 +18,10 @@
 #define UNTOUCHED 0xA5
 
 /* The entry points' types, written once more: the header's must be these. */
-static void (*const check_call)(const uint8_t *, size_t, uint32_t *) = timing_check;
+typedef void check_type(const uint8_t *, size_t, uint32_t *);
+
+static check_type *const check_call = timing_check;
+static check_type *const check_strict_call = timing_check_strict;
 static void (*const run_call)(const uint8_t *, size_t, uint32_t, uint8_t *, size_t, uint32_t *) = timing_run;
 
 static void (*const describe_call)(uint32_t, uint32_t, uint32_t, uint8_t *, size_t, uint32_t *) = timing_describe;
@@ -37,11 +41,11 @@ static void print_lent(size_t bytes)
     printf("\n");
 }
 
-static void check(size_t length)
+static void check(check_type *call, size_t length)
 {
     uint32_t answer[3] = {UINT32_MAX, UINT32_MAX, UINT32_MAX};
 
-    check_call(sheet, length, answer);
+    call(sheet, length, answer);
     print_answer(answer);
 }
 
@@ -75,7 +79,11 @@ int main(int argc, char **argv)
     size_t length = fread(sheet, 1, sizeof sheet, stdin);
 
     if (argc == 2 && strcmp(argv[1], "check") == 0) {
-        check(length);
+        check(check_call, length);
+        return EXIT_SUCCESS;
+    }
+    if (argc == 2 && strcmp(argv[1], "check_strict") == 0) {
+        check(check_strict_call, length);
         return EXIT_SUCCESS;
     }
     if (argc == 4 && strcmp(argv[1], "run") == 0) {
@@ -95,6 +103,6 @@ int main(int argc, char **argv)
             return EXIT_SUCCESS;
         }
     }
-    fprintf(stderr, "usage: calls check | calls run HORIZON BYTES | calls describe NUMBER PLACE COUNT BYTES\n");
+    fprintf(stderr, "usage: calls check | calls check_strict | calls run HORIZON BYTES | calls describe NUMBER PLACE COUNT BYTES\n");
     return EXIT_FAILURE;
 }

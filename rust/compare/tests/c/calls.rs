@@ -20,12 +20,19 @@ fn words([number, place, count]: [u32; 3]) -> String {
     format!("{number} {place} {count}\n")
 }
 
-/// Asserts that a check from C answers what the plain simulator does, and gives the number.
-fn checked(sheet: &[u8], whence: &str) -> u32 {
-    let answer = plain::check(sheet).triple();
-    let printed = CALLS.printed(&["check".into()], sheet);
-    assert_eq!(printed, words(answer), "{whence}: {}", hex(sheet));
-    answer[0]
+/// Asserts that a check and a strict one from C answer what the plain simulator does, and gives the
+/// numbers.
+fn checked(sheet: &[u8], whence: &str) -> [u32; 2] {
+    let answers = [
+        ("check", plain::check(sheet)),
+        ("check_strict", plain::check_strict(sheet)),
+    ];
+    answers.map(|(call, answer)| {
+        let answer = answer.triple();
+        let printed = CALLS.printed(&[call.into()], sheet);
+        assert_eq!(printed, words(answer), "{call}, {whence}: {}", hex(sheet));
+        answer[0]
+    })
 }
 
 /// Asserts that a run from C answers what the plain simulator does and leaves the same bytes, and
@@ -72,7 +79,7 @@ fn the_worked_run() {
     assert_eq!(run(60_000), [0, 0, 6]);
     assert_eq!(run(35), [19, 11, 5]);
     assert_eq!(run(0), [19, 0, 0]);
-    assert_eq!(checked(worked_run::SHEET, "worked run"), 0);
+    assert_eq!(checked(worked_run::SHEET, "worked run"), [0, 0]);
 }
 
 /// The horizon, 19 and 20; a sheet's refusals are below.
@@ -94,17 +101,23 @@ fn refusals_of_a_run() {
     );
 }
 
-/// Every sheet worked out by hand, checked and run: refusals 2 to 18, and 19 for the small buffer.
+/// Every sheet worked out by hand, checked, checked strictly and run: refusals 2 to 18, 15 strictly
+/// alone, and 19 for the small buffer.
 #[test]
 fn sheets_worked_out_by_hand() {
-    let mut met = BTreeSet::new();
+    let mut met = [(); 3].map(|()| BTreeSet::new());
     for case in by_hand::cases() {
-        met.insert(checked(&case.sheet, case.name));
-        let [number, ..] = ran(&case.sheet, 12, 120, case.name);
-        met.insert(number);
+        let [check, strict] = checked(&case.sheet, case.name);
+        let [run, ..] = ran(&case.sheet, 12, 120, case.name);
+        for (met, number) in met.iter_mut().zip([check, strict, run]) {
+            met.insert(number);
+        }
     }
-    let expected: BTreeSet<u32> = [0].into_iter().chain(2..=19).collect();
-    assert_eq!(met, expected);
+    let [check, strict, run] = met;
+    let without = |number: u32| move |met: &u32| *met != number;
+    assert_eq!(strict, [0].into_iter().chain(2..=18).collect());
+    assert_eq!(check, strict.iter().copied().filter(without(15)).collect());
+    assert_eq!(run, check.iter().copied().chain([19]).collect());
 }
 
 #[test]

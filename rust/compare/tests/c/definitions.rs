@@ -43,7 +43,7 @@ fn cases(file: &str, word: &str) -> Vec<Named> {
 
 /// Every refusal's name and number: 2 to 18, then those of a run, then that of a description.
 pub fn refusals() -> Vec<Named> {
-    let of_a_sheet = cases("format/specs/Condition.antt", "Condition e s ");
+    let of_a_sheet = cases("format/specs/Condition.antt", "ConditionBy ");
     let of_a_run = cases("network/specs/RunConditions.antt", "(refused ");
     let of_a_text = constants("sentence/specs/Describing.antt");
     [of_a_sheet, of_a_run, of_a_text].concat()

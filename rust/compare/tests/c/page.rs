@@ -122,6 +122,6 @@ fn calls(text: &str) -> Vec<String> {
 #[test]
 fn the_calls_in_the_readme() {
     let declared = calls(&text("include/timing.h"));
-    assert_eq!(declared.len(), 3);
+    assert_eq!(declared.len(), 4);
     assert_eq!(calls(&page()), declared);
 }

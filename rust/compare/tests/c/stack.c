@@ -4,6 +4,7 @@
  * and the lowest byte that has changed is looked for afterwards.
  *
  *     stack check
+ *     stack check_strict
  *     stack run HORIZON
  *     stack describe NUMBER PLACE COUNT
  */
@@ -43,6 +44,8 @@ static void *call_on(void *stack)
 
     if (strcmp(call, "check") == 0)
         timing_check(sheet, length, answer);
+    else if (strcmp(call, "check_strict") == 0)
+        timing_check_strict(sheet, length, answer);
     else if (strcmp(call, "run") == 0)
         timing_run(sheet, length, words[0], listing, sizeof listing, answer);
     else

@@ -53,6 +53,7 @@ fn stated(name: &str, used: u32) {
 fn the_stack_of_every_call() {
     let program = Program::new("stack");
     stated("TIMING_CHECK_STACK", most_used(&program, &["check"]));
+    stated("TIMING_CHECK_STACK", most_used(&program, &["check_strict"]));
     stated("TIMING_RUN_STACK", most_used(&program, &["run", "2000"]));
     stated("TIMING_DESCRIBE_STACK", most_described(&program));
 }

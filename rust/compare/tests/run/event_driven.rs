@@ -3,7 +3,7 @@
 use std::collections::BTreeMap;
 
 use generate::sheets::{Record, MEMORY};
-use plain::{in_set, rule, Module, Sheet};
+use plain::{in_set, rule, Module, Sheet, INPUT, UNKNOWN};
 
 /// "Faults seen in such simulators", in document 01's order.
 #[derive(Debug, Clone, Copy, PartialEq, Eq)]
@@ -71,8 +71,7 @@ impl<'a> Simulator<'a> {
             fault,
             zero_delay: working_order(sheet),
             delayed: modules.filter(|&m| sheet.modules[m].delay > 0).collect(),
-            // An input's byte is no value, so its event at tick 0 is a change.
-            present: sheet.nodes.clone(),
+            present: sheet.nodes.iter().map(|&byte| first_value(byte)).collect(),
             last: sheet.modules.iter().map(initial).collect(),
             pending: drive(sheet, horizon),
             changed: vec![false; sheet.nodes.len()],
@@ -210,6 +209,14 @@ impl<'a> Simulator<'a> {
                 self.records.push((tick, node, value));
             }
         }
+    }
+}
+
+/// What a node has before tick 0: a driven node its initial value, an input X.
+fn first_value(byte: u8) -> u8 {
+    match byte {
+        INPUT => UNKNOWN,
+        initial => initial,
     }
 }
 

@@ -2,7 +2,7 @@
 
 use compare::{count, seed};
 use generate::limits::RECORD_BYTES;
-use generate::{room_for_all, Generator, Room, RunInput};
+use generate::{room_for_all, starts_of, Generator, Room, RunInput, Start};
 
 use crate::agreed::agreed;
 
@@ -22,25 +22,36 @@ struct Met {
     rooms: [[u64; 2]; Room::ALL.len()],
     /// Finished runs that list a change after tick 0.
     lively: u64,
+    /// Finished runs with an input that is X at first, without an event at tick 0.
+    begun_unknown: u64,
 }
 
 impl Met {
-    fn add(&mut self, number: u32, room: Room, is_lively: bool) {
+    fn add(&mut self, number: u32, room: Room, is_lively: bool, begins_unknown: bool) {
         let sort = Room::ALL.iter().position(|&sort| sort == room);
         let [lent, too_short] = &mut self.rooms[sort.expect("all sorts are there")];
         self.numbers[number as usize] += 1;
         *lent += 1;
         *too_short += u64::from(number == 19);
         self.lively += u64::from(number == 0 && is_lively);
+        self.begun_unknown += u64::from(number == 0 && begins_unknown);
     }
 
-    /// Asserts that everything was met often. Only an exact and an ample buffer are never too
-    /// short.
+    /// Asserts that everything was met often. A run never meets 15, and only an exact and an ample
+    /// buffer are never too short.
     fn assert_often(&self, seed: u64) {
         let [finished, refused @ ..] = self.numbers;
         assert!(finished >= 30_000, "seed {seed}: {self:?}");
         assert!(self.lively >= 10_000, "seed {seed}: {self:?}");
-        assert!(refused.iter().all(|&n| n >= 100), "seed {seed}: {self:?}");
+        assert!(self.begun_unknown >= 10_000, "seed {seed}: {self:?}");
+        for (number, times) in (1..).zip(refused) {
+            let enough = if number == 15 {
+                times == 0
+            } else {
+                times >= 100
+            };
+            assert!(enough, "seed {seed}, {number}: {self:?}");
+        }
         for (room, [lent, too_short]) in Room::ALL.into_iter().zip(self.rooms) {
             let never = matches!(room, Room::Exact | Room::Ample);
             assert!(lent >= 10_000, "seed {seed}, {room:?}: {self:?}");
@@ -62,7 +73,8 @@ fn generated_runs() {
         let length = buffers.bytes_of(room, all_records(&input));
         let whence = format!("seed {seed}, run {place}, {room:?}");
         let outcome = agreed(&input.sheet, input.horizon, length, &whence);
-        met.add(outcome.answer[0], room, has_change(&outcome.listing));
+        let is_lively = has_change(&outcome.listing);
+        met.add(outcome.answer[0], room, is_lively, begins_unknown(&input));
     }
     println!("seed {seed}: {met:?}");
     met.assert_often(seed);
@@ -72,6 +84,12 @@ fn generated_runs() {
 fn has_change(listing: &[u8]) -> bool {
     let last = listing.last_chunk::<RECORD_BYTES>();
     last.is_some_and(|record| record[..4] != [0; 4])
+}
+
+/// Whether an input of an accepted sheet has no event at tick 0.
+fn begins_unknown(input: &RunInput) -> bool {
+    let starts = plain::read(&input.sheet).map(|sheet| starts_of(&sheet));
+    starts.is_ok_and(|starts| starts.iter().any(|&start| start != Start::AtOnce))
 }
 
 /// Buffers of every length, from none to more than enough.

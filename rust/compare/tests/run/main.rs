@@ -9,4 +9,5 @@ mod generated;
 mod limits;
 mod reading;
 mod renumbered;
+mod start;
 mod vectors;

@@ -8,28 +8,29 @@ use crate::vector::{Outcome, Vector, UNTOUCHED};
 pub struct Simulator {
     pub name: &'static str,
     check: fn(&[u8]) -> [u32; 3],
+    check_strict: fn(&[u8]) -> [u32; 3],
     run: fn(&[u8], u32, &mut [u8]) -> [u32; 3],
 }
 
 pub const PROVED: Simulator = Simulator {
     name: "proved",
     check: compare::check,
+    check_strict: compare::check_strict,
     run: compare::run,
 };
 
 pub const PLAIN: Simulator = Simulator {
     name: "plain",
     check: |sheet| plain::check(sheet).triple(),
+    check_strict: |sheet| plain::check_strict(sheet).triple(),
     run: |sheet, horizon, listing| plain::run(sheet, horizon, listing).triple(),
 };
 
 impl Simulator {
     pub fn outcome(&self, vector: &Vector) -> Outcome {
         match (vector.call, &vector.numbers[..]) {
-            ("check", []) => Outcome {
-                answer: (self.check)(&vector.sheet),
-                buffers: Vec::new(),
-            },
+            ("check", []) => answered((self.check)(&vector.sheet)),
+            ("check_strict", []) => answered((self.check_strict)(&vector.sheet)),
             ("run", &[length]) => {
                 let length = length as usize;
                 let mut listing = untouched(length);
@@ -41,6 +42,14 @@ impl Simulator {
             }
             (call, numbers) => panic!("line {}: {call} with {numbers:?}", vector.line),
         }
+    }
+}
+
+/// What a call that is lent no buffer comes to.
+fn answered(answer: [u32; 3]) -> Outcome {
+    Outcome {
+        answer,
+        buffers: Vec::new(),
     }
 }
 

@@ -8,4 +8,5 @@ mod memory;
 mod program;
 mod refusals;
 mod renumbering;
+mod start;
 mod support;

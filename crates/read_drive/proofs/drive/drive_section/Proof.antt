@@ -33,11 +33,11 @@ Passed e s n drive begun last k =
     × Flags begun (begunIn (sheetOf e s) k)
 
 abbrev Inv-loop : tie.InvT-loop
-Inv-loop s place nodes driven n start drive₀ begun₀ last₀ k₀ drive begun last k =
+Inv-loop strict s place nodes driven n start drive₀ begun₀ last₀ k₀ drive begun last k =
     (k ≤ n) × (n ≤ 1024) × (length begun ≡ 256) × ((e : Edition) → place ≡ drivePlace e s → Flags driven (isDriven (sheetOf e s)) → Passed e s n drive begun last k)
 
 abbrev μ-loop : tie.MeasureT-loop
-μ-loop s place nodes driven n start drive₀ begun₀ last₀ k₀ drive begun last k = n - k
+μ-loop strict s place nodes driven n start drive₀ begun₀ last₀ k₀ drive begun last k = n - k
 
 returns : tie.Need-returns Inv-loop μ-loop
 returns c =
@@ -98,7 +98,7 @@ returns-3 c =
     let start = l .before .before .before .before .before .before .before .before .before in
     let s = start .args .s .now in
     let known = l .loop .inv .3 (start .args .e) (start .pre .0) (start .pre .4) in
-    let rows = first-rows (start .args .e) s (l .loop .begun) (known .2) (omega (arith, known .0)) (start .pre .2) (start .pre .3) in
+    let rows = first-rows (start .args .strict) (start .args .e) s (l .loop .begun) (known .2) (omega (arith, known .0)) (start .pre .2) (start .pre .3) in
     rw (c .no-drive3 .ensures)
     (stopped-later (known .0) _ (b .before .before .loop-test .left) (ap outcomeOf (c .before .enum-told4 .given .1)) (sym (b .first-events .ensures ∙ ap first rows)))
 
@@ -109,7 +109,7 @@ returns-4 c =
     let start = l .before .before .before .before .before .before .before .before .before in
     let s = start .args .s .now in
     let known = l .loop .inv .3 (start .args .e) (start .pre .0) (start .pre .4) in
-    let rows = first-rows (start .args .e) s (l .loop .begun) (known .2) (omega (arith, known .0)) (start .pre .2) (start .pre .3) in
+    let rows = first-rows (start .args .strict) (start .args .e) s (l .loop .begun) (known .2) (omega (arith, known .0)) (start .pre .2) (start .pre .3) in
     none-later (known .0) _ (b .before .before .loop-test .left) (sym (ap first rows) ∙ passed _ _ (b .first-events .ensures) _ (c .enum-told3 .given .1))
 
 pub drive-section-spec : {M : Type 1} → statement M

@@ -5,7 +5,7 @@ use Rattle.sheet.specs.Enumerate.{each}
 use Rattle.sheet.specs.Layout.{nodesCounted}
 use Rattle.sheet.specs.Outcome.{finished, outcomeOf}
 use Rattle.sheet.specs.Refusal.{first, modulesSection, startRows}
-use Rattle.sheet.specs.Sections.{rowsOf}
+use Rattle.sheet.specs.Sections.{rowsOfModules}
 use Rattle.sheet.proofs.Rows.{passed, stopped, went-on}
 use Rattle.read_modules.proofs.Known.{none-known, known-as}
 use Rattle.read_modules.proofs.StartRows.{start-rows}
@@ -27,7 +27,7 @@ returns c =
     let e = a .before .before .args .e in
     let s = a .before .before .args .s .now in
     let known = a .module-records .ensures in
-    known-as e s (rowsOf e s 1) known (stopped (modulesSection e s) _ (known .section .answered) _ _ _ (c .enum-told2 .given .1) (each (nodesCounted s) (startRows e s)))
+    known-as e s (rowsOfModules e s) known (stopped (modulesSection e s) _ (known .section .answered) _ _ _ (c .enum-told2 .given .1) (each (nodesCounted s) (startRows e s)))
 
 first-byte-refusal-requires : tie.Need-first-byte-refusal-requires
 first-byte-refusal-requires c κs = search needs
@@ -51,7 +51,7 @@ none-met c =
 -- the answer about the nodes' bytes is that of all rows
 decided : (c : tie.After-first-byte-refusal)
     → let args = c .before .before .before .before .before .before .before .args in
-    outcomeOf (c .first-byte-refusal .result) ≡ first (rowsOf (args .e) (args .s .now) 1)
+    outcomeOf (c .first-byte-refusal .result) ≡ first (rowsOfModules (args .e) (args .s .now))
 decided c =
     let t = c .before .before .before in
     let a = t .before .before in
@@ -68,7 +68,7 @@ returns-2 c =
     let start = b .before .before .before .before .before .before .before in
     let e = start .args .e in
     let s = start .args .s .now in
-    none-known e s (rowsOf e s 1) (c .none-read .ensures) (c .before .enum-told4 .given .1) (decided b)
+    none-known e s (rowsOfModules e s) (c .none-read .ensures) (c .before .enum-told4 .given .1) (decided b)
 
 returns-3 : tie.Need-returns-3
 returns-3 c =
@@ -77,7 +77,7 @@ returns-3 c =
     let a = t .before .before in
     let e = a .before .before .args .e in
     let s = a .before .before .args .s .now in
-    known-as e s (rowsOf e s 1) (a .module-records .ensures) (none-met t ∙ sym (passed (rowsOf e s 1) _ (decided b) _ (c .enum-told3 .given .1)))
+    known-as e s (rowsOfModules e s) (a .module-records .ensures) (none-met t ∙ sym (passed (rowsOfModules e s) _ (decided b) _ (c .enum-told3 .given .1)))
 
 pub modules-section-spec : {M : Type 1} → statement M
 modules-section-spec =

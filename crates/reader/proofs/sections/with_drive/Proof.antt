@@ -9,24 +9,12 @@ use Rattle.reader.proofs.sections.with_drive.Tie as tie
 drive-section-requires : tie.Need-drive-section-requires
 drive-section-requires c κs = search needs
 
-add-t11 : tie.Need-add-t11
-add-t11 c = search needs
-
-cast-t12 : tie.Need-cast-t12
-cast-t12 c = search needs
-
-mul-t13 : tie.Need-mul-t13
-mul-t13 c = search needs
-
-add-t14 : tie.Need-add-t14
-add-t14 c = search needs
-
 returns : tie.Need-returns
 returns c =
     let r = c .before .before .before in
     let d = r .before .before .before .before .before .before .pre in
     let read = r .drive-section .ensures in
-    extended 2 d refl (read .answered) (d .known) (λ f. (omega (arith, d .stands, read .counted f), omega (arith, d .near, read .few f), held read f))
+    extended 2 d refl refl (read .answered) (d .known) (λ f. (omega (arith, d .stands, read .counted f), omega (arith, d .near, read .few f), held read f))
 
 pub with-drive-spec : {M : Type 1} → statement M
-with-drive-spec = tie.close (tie.spec drive-section-requires add-t11 cast-t12 mul-t13 add-t14 returns)
+with-drive-spec = tie.close (tie.spec drive-section-requires (λ c. search needs) (λ c. search needs) (λ c. search needs) (λ c. search needs) returns)

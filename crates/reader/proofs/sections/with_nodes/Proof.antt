@@ -9,21 +9,12 @@ use Rattle.reader.proofs.sections.with_nodes.Tie as tie
 nodes-section-requires : tie.Need-nodes-section-requires
 nodes-section-requires c κs = search needs
 
-add-t10 : tie.Need-add-t10
-add-t10 c = search needs
-
-cast-t11 : tie.Need-cast-t11
-cast-t11 c = search needs
-
-add-t12 : tie.Need-add-t12
-add-t12 c = search needs
-
 returns : tie.Need-returns
 returns c =
     let r = c .before .before .before in
     let d = r .before .before .before .before .before .pre in
     let read = r .nodes-section .ensures in
-    extended 0 d refl (read .answered) tt (λ f. (omega (arith, d .stands, read .counted f), omega (arith, d .near, read .few f), held read f))
+    extended 0 d refl refl (read .answered) tt (λ f. (omega (arith, d .stands, read .counted f), omega (arith, d .near, read .few f), held read f))
 
 pub with-nodes-spec : {M : Type 1} → statement M
-with-nodes-spec = tie.close (tie.spec nodes-section-requires add-t10 cast-t11 add-t12 returns)
+with-nodes-spec = tie.close (tie.spec nodes-section-requires (λ c. search needs) (λ c. search needs) (λ c. search needs) returns)
