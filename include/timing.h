@@ -125,8 +125,8 @@ enum timing_value {
 void timing_check(const uint8_t *sheet, size_t length, uint32_t answer[3]);
 
 /*
- * Checks the sheet and that each of its inputs has an event at tick 0. Its answer is that of timing_check,
- * or TIMING_NO_FIRST_EVENT where timing_check has nothing to refuse up to the end of the drive.
+ * Checks the sheet and that each of its inputs has an event at tick 0. Its answer is that of timing_check, or
+ * TIMING_NO_FIRST_EVENT where one has none and nothing else is refused up to the end of the drive.
  */
 void timing_check_strict(const uint8_t *sheet, size_t length, uint32_t answer[3]);
 

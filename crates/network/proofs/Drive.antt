@@ -56,7 +56,7 @@ module _ (drive : List Event) (v : ℕ) where
       → (t : ℕ) (e : Event) → LatestEvent drive v t e → driveCell drive v t ≡ e .value
   unfolding driveCell
   latest-value one zero e l =
-      given-there v zero unknown (e .value) drive (λ f m o. one f e m (l .listed) (omega (arith, o .0, l .tick)) (o .1 ∙ sym (l .node))) e (l .listed) (omega (arith, l .tick), l .node)
+      given-there v zero _ (e .value) drive (λ f m o. one f e m (l .listed) (omega (arith, o .0, l .tick)) (o .1 ∙ sym (l .node))) e (l .listed) (omega (arith, l .tick), l .node)
   latest-value one (suc t) e l = now (latest-value one t e) (ℕ-discrete (e .tick) (suc t))
     where
       now : (LatestEvent drive v t e → driveCell drive v t ≡ e .value) → Dec (e .tick ≡ suc t) → given drive v (suc t) (driveCell drive v t) ≡ e .value

@@ -7,7 +7,6 @@ use mathlib.Core.Logic.{_↔_}
 use mathlib.Core.Path.{_≡_, refl, sym, ap, _∙_}
 use Prim.Native.Nat.{ℕ, zero, suc}
 use Rattle.level.specs.Examples.{is}
-use Rattle.level.specs.Level.{unknown, none}
 use Rattle.sheet.specs.declared.Event.{Event}
 use Rattle.network.specs.Timeline.{given, driveCell}
 use Rattle.sheet.proofs.Tests.{Tells, tells-eq, tells-and, fails}
@@ -59,5 +58,5 @@ module _ (l r : List Event) (v w : ℕ) (one : (t x y : ℕ) → Gives l v t x �
 
   pub drive-same : (t : ℕ) → driveCell l v t ≡ driveCell r w t
   unfolding driveCell
-  drive-same zero = given-same zero unknown
+  drive-same zero = given-same zero _
   drive-same (suc t) = given-same (suc t) (driveCell l v t) ∙ ap (given r w (suc t)) (drive-same t)

@@ -7,7 +7,6 @@ use mathlib.Core.Path.{_≡_, refl, sym, ap, _∙_, subst}
 use native.Mathlib.Omega.{arith}
 use Prim.Native.Nat.{ℕ, zero, suc, _<_}
 use Rattle.level.specs.Choice.{if_then_else_}
-use Rattle.level.specs.Level.{unknown}
 use Rattle.sheet.specs.declared.Edition.{Edition}
 use Rattle.sheet.specs.declared.Event.{Event}
 use Rattle.sheet.specs.Layout.{sheetOf}
@@ -36,7 +35,7 @@ module _ (horizon v : ℕ) where
 
   cell-below : (drive : List Event) (t : ℕ) → t < horizon → driveCell drive v t ≡ driveCell (eventsBelow horizon drive) v t
   unfolding driveCell
-  cell-below drive zero h = given-below zero unknown h drive
+  cell-below drive zero h = given-below zero _ h drive
   cell-below drive (suc t) h =
       given-below (suc t) (driveCell drive v t) h drive
       ∙ ap (given (eventsBelow horizon drive) v (suc t)) (cell-below drive t (omega (arith, h)))

@@ -10,7 +10,6 @@ use native.Mathlib.Omega.{arith}
 use Prim.Native.Nat.{ℕ, zero, suc, _+_, _-_, _≤_, _<_}
 use Rattle.level.specs.Choice.{if_then_else_}
 use Rattle.level.specs.Kind.{ruleOf}
-use Rattle.level.specs.Level.{unknown}
 use Rattle.level.specs.Rule.{inputsOf}
 use Rattle.sheet.specs.Enumerate.{listed}
 use Rattle.sheet.specs.Sheet.{nodeCount, moduleCount, moduleOf, nodeByte, Sheet, noEvent}
@@ -51,7 +50,7 @@ module _ (drive : List Event) (v : ℕ) (values : (e : Event) → List·Memᴰ e
 
   drive-value : (t : ℕ) → driveCell drive v t < 4
   unfolding driveCell
-  drive-value zero = given-value drive values zero unknown (omega arith)
+  drive-value zero = given-value drive values zero _ (omega arith)
   drive-value (suc t) = given-value drive values (suc t) (driveCell drive v t) (drive-value t)
 
 module _ (S : Sheet) (acc : Accepted S) where

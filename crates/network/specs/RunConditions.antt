@@ -45,7 +45,7 @@ module _ (e : Edition) (s : List ℕ) (c : Cells) (horizon bytes : ℕ) where
   pub data RunCondition : Written → Type 0 where
     -- before reading: 1 horizon 0 or above 1,000,000
     horizon-outside : (horizon ≡ 0) ⊎ (greatestHorizon < horizon) → RunCondition (wrote (refused 1 0 0) [])
-    -- then the sheet's refusals, 2 to 18: the first whose condition is met, front to back
+    -- then the sheet's refusals, 2 to 18 but 15: the first whose condition is met, front to back
     sheet-refused : {n p : ℕ} → 0 < horizon → horizon ≤ greatestHorizon → FirstCondition e s n p
         → RunCondition (wrote (refused n p 0) [])
     -- each tick, watched changes: 19 the buffer cannot take all records of this tick

@@ -1,4 +1,5 @@
--- Document 01, "Time and values" and "Modules": cells, an input's cell from the drive, and what a module gives its output node.
+-- Document 01, "Time and values" and "Modules", with document 02's W-203: cells, an input's cell from the drive, and what a module gives
+-- its output node.
 use mathlib.Core.Bool.{Bool, _&&_}
 use mathlib.Core.List.{List, [], _∷_, map}
 use Prim.Native.Nat.{ℕ, zero, suc, _-_}
@@ -25,7 +26,7 @@ unfoldable pub given : List Event → ℕ → ℕ → ℕ → ℕ
 given [] v t before = before
 given (e ∷ es) v t before = if eqb (e .tick) t && eqb (e .node) v then e .value else given es v t before
 
--- An input's cell t is the value of its latest drive event with tick at most t; X where none was ever given.
+-- An input's cell t is the value of its latest drive event with tick at most t, and X until its first event.
 unfoldable pub driveCell : List Event → ℕ → Timeline
 driveCell drive v zero = given drive v zero unknown
 driveCell drive v (suc t) = given drive v (suc t) (driveCell drive v t)

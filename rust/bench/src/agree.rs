@@ -1,5 +1,6 @@
 //! All simulators agree on generated sheets before any is timed.
 
+use generate::shared::unknown_at_first;
 use generate::sheets::MEMORY;
 use generate::{every, Generator, Size};
 use plain::Sheet;
@@ -30,11 +31,12 @@ pub fn ours() {
 }
 
 /// A simulator that is not ours over sheets that are translated for it: all gates at all values,
-/// and generated ones.
+/// inputs that are X at first, and generated ones.
 pub fn translations(simulator: &Simulator) {
     for delay in [0, 5] {
         translation(simulator, &every::gates(delay));
     }
+    translation(simulator, &unknown_at_first());
     let sheets = 100;
     let mut generator = Generator::new(2);
     let mut translated = 0;

@@ -40,6 +40,33 @@ fn the_worked_run() {
     assert_eq!(vhdl::text(&sheet, worked_run::HORIZON), WORKED_VHDL);
 }
 
+/// Inputs that are X at first: one that begins at tick 3, and one that never does.
+#[test]
+fn inputs_that_start_unknown() {
+    let sheet = sheet(&[INPUT, INPUT], &[], &[(3, 0, HIGH)], &[0, 1]);
+    let in_verilog = verilog::text(&sheet, 10);
+    let lines: Vec<&str> = in_verilog.lines().skip(4).take(3).collect();
+    assert_eq!(
+        lines,
+        [
+            "reg n0 = 1'bx;",
+            "initial begin #4 n0 = 1'b1; end",
+            "reg n1 = 1'bx;"
+        ]
+    );
+    let in_vhdl = vhdl::text(&sheet, 10);
+    let lines: Vec<&str> = in_vhdl.lines().skip(3).take(4).collect();
+    assert_eq!(
+        lines,
+        [
+            "signal n0 : std_ulogic := 'X';",
+            "signal n1 : std_ulogic := 'X';",
+            "begin",
+            "n0 <= transport '1' after 3 ns;"
+        ]
+    );
+}
+
 /// Asserts what both say of a module from inputs 0 and 1 to node 2.
 fn says(module: Module, in_verilog: &str, in_vhdl: &str) {
     let nodes = [INPUT, INPUT, LOW];

@@ -41,7 +41,7 @@ fn as_if_it_had_an_event_of_x() {
     let seed = 38;
     let mut generator = Generator::new(seed);
     let mut runs = 0;
-    while runs < 5_000 {
+    for _ in 0..20_000 {
         let input = generator.run_input();
         let whole = read(&input.sheet).ok();
         let Some(whole) = whole.and_then(|sheet| with_events_of_x(&sheet)) else {
@@ -57,4 +57,5 @@ fn as_if_it_had_an_event_of_x() {
         assert_eq!(compare::check_strict(&whole), [0, 0, 0]);
         runs += 1;
     }
+    assert!(runs >= 3_000, "{runs} runs");
 }
