@@ -2,7 +2,7 @@
 
 use compare::{count, hex, seed};
 use generate::sheets::{event, gate, AND, BUFFER, INVERTER};
-use generate::{by_hand, every, Generator, Size};
+use generate::{assert_met, by_hand, every, Generator, Size};
 use plain::{worked_run, Answer, Sheet, HIGH, INPUT, UNKNOWN};
 
 /// Asserts that both give the bytes the same answers, and gives them: the check's and the strict
@@ -21,19 +21,6 @@ fn agreed(sheet: &[u8], whence: &str) -> [[u32; 3]; 2] {
     proved
 }
 
-/// Asserts that a number was met often, unless it is one that is never met.
-fn met_often(met: &[u64; 19], never: &[usize], whence: &str) {
-    assert!(met[0] >= 10_000, "{whence}: {met:?}");
-    for (number, &times) in met.iter().enumerate() {
-        let enough = if never.contains(&number) {
-            times == 0
-        } else {
-            times >= 100
-        };
-        assert!(enough, "{whence}, {number}: {met:?}");
-    }
-}
-
 #[test]
 fn generated_sheets() {
     let seed = seed();
@@ -47,8 +34,9 @@ fn generated_sheets() {
         }
     }
     println!("answers by number, 0 for accepted, then of a strict check: {met:?}");
-    met_often(&met[0], &[1, 15], &format!("seed {seed}"));
-    met_often(&met[1], &[1], &format!("seed {seed}, strictly"));
+    assert_met(&met[0], 100, &[1, 15], &format!("seed {seed}"));
+    assert_met(&met[1], 100, &[1], &format!("seed {seed}, strictly"));
+    assert!(met.iter().all(|met| met[0] >= 10_000), "seed {seed}");
 }
 
 #[test]

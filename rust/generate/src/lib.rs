@@ -14,6 +14,7 @@ pub mod every;
 mod fault;
 mod gates;
 pub mod limits;
+mod met;
 mod mixture;
 mod random;
 mod reorder;
@@ -26,6 +27,7 @@ mod start;
 mod valid;
 mod zero_delay;
 
+pub use met::assert_met;
 pub use room::{room_for_all, Room};
 pub use run_mixture::RunInput;
 pub use start::{starts_of, Start};

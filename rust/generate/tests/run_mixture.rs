@@ -1,11 +1,11 @@
 //! The mixture of runs meets every refusal, and a seed gives one stream.
 
-use generate::{room_for_all, Generator, RunInput};
+use generate::{assert_met, room_for_all, Generator, RunInput};
 
 #[test]
 fn every_refusal_but_15_and_19_is_met() {
     let mut generator = Generator::new(31);
-    let mut met = [0u32; 21];
+    let mut met = [0; 21];
     for _ in 0..20_000 {
         let RunInput { sheet, horizon } = generator.run_input();
         let mut ample = vec![0; room_for_all(&sheet, horizon)];
@@ -15,15 +15,7 @@ fn every_refusal_but_15_and_19_is_met() {
     println!("answers by number, 0 for finished: {met:?}");
     assert!(met[0] >= 10_000, "{met:?}");
     // 19 asks for a short buffer, and 15 for a strict check.
-    for number in 1..=20 {
-        let absent = [15, 19].contains(&number);
-        let enough = if absent {
-            met[number] == 0
-        } else {
-            met[number] >= 15
-        };
-        assert!(enough, "{number}: {met:?}");
-    }
+    assert_met(&met, 15, &[15, 19], "runs");
 }
 
 #[test]

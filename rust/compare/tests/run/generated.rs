@@ -2,7 +2,7 @@
 
 use compare::{count, seed};
 use generate::limits::RECORD_BYTES;
-use generate::{room_for_all, starts_of, Generator, Room, RunInput, Start};
+use generate::{assert_met, room_for_all, starts_of, Generator, Room, RunInput, Start};
 
 use crate::agreed::agreed;
 
@@ -40,18 +40,10 @@ impl Met {
     /// Asserts that everything was met often. A run never meets 15, and only an exact and an ample
     /// buffer are never too short.
     fn assert_often(&self, seed: u64) {
-        let [finished, refused @ ..] = self.numbers;
-        assert!(finished >= 30_000, "seed {seed}: {self:?}");
+        assert_met(&self.numbers, 100, &[15], &format!("seed {seed}"));
+        assert!(self.numbers[0] >= 30_000, "seed {seed}: {self:?}");
         assert!(self.lively >= 10_000, "seed {seed}: {self:?}");
         assert!(self.begun_unknown >= 10_000, "seed {seed}: {self:?}");
-        for (number, times) in (1..).zip(refused) {
-            let enough = if number == 15 {
-                times == 0
-            } else {
-                times >= 100
-            };
-            assert!(enough, "seed {seed}, {number}: {self:?}");
-        }
         for (room, [lent, too_short]) in Room::ALL.into_iter().zip(self.rooms) {
             let never = matches!(room, Room::Exact | Room::Ample);
             assert!(lent >= 10_000, "seed {seed}, {room:?}: {self:?}");
