@@ -238,7 +238,7 @@ module _ (E : Edition) (s : List ℕ) (a : AcceptedIn E s) where
 
 -- a check that is strict or not
 module _ (strict : Bool) (E : Edition) (known : Known E) (s : List ℕ) where
-  pub accepted-by : checkedBy strict E s ≡ finished 0 → AcceptedIn E s
+  accepted-by : checkedBy strict E s ≡ finished 0 → AcceptedIn E s
   accepted-by e = bytes-accepted E s known (finished-iff strict E (some-size known) s .0 e)
 
   finishes : AcceptedIn E s → (strict ≡ true → (v : ℕ) → Input (sheetOf E s) v → DrivenAtStart (sheetOf E s) v) → checkedBy strict E s ≡ finished 0
