@@ -7,7 +7,7 @@ use mathlib.Core.Path.{_≡_, refl, sym, subst}
 use Prim.Native.Nat.{ℕ}
 use Rattle.sheet.specs.declared.Edition.{Edition}
 use Rattle.sheet.specs.Layout.{sheetOf}
-use Rattle.sheet.specs.Outcome.{finished}
+use Rattle.sheet.specs.Outcome.{finished, refused}
 use Rattle.format.specs.Accepted.{Accepted, Known}
 use Rattle.network.specs.Demand2.{Lists, RunOf}
 use Rattle.network.specs.Run.{Written, cellsOf, ran}
@@ -17,7 +17,7 @@ use Rattle.network.specs.Timeline.{Cells}
 use Rattle.format.proofs.Accepted.{accepted}
 use Rattle.format.proofs.Theorems.{no-refusal}
 use Rattle.network.proofs.Listing.{listing-of}
-use Rattle.network.proofs.RunConditions.{FinishedRun, finished-run, run-conditions}
+use Rattle.network.proofs.RunConditions.{FinishedRun, finished-run, never-15, run-conditions}
 use Rattle.network.proofs.Runs.{own-cells}
 
 module _ {E : Edition} (known : Known E) (s : List ℕ) (horizon : ℕ) where
@@ -42,3 +42,9 @@ module _ {E : Edition} (known : Known E) (s : List ℕ) (horizon : ℕ) where
   -- such timelines exist: the sheet's own cells
   pub timelines-exist : Begins E s horizon → Satisfied (sheetOf E s) horizon (cellsOf (sheetOf E s) horizon)
   timelines-exist b = own-cells (sheetOf E s) (sheet-accepted b) horizon
+
+  -- No run answers 15, whatever its bytes, horizon and buffer: the row is a strict check's alone.
+  pub run-never-15 : (bytes place count : ℕ) → ran E s horizon bytes .answer ≡ refused 15 place count → ⊥
+  run-never-15 bytes =
+      let w = ran E s horizon bytes in
+      never-15 w (demand-2 bytes (cellsOf (sheetOf E s) horizon) timelines-exist .answers w .0 refl)

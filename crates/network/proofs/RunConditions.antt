@@ -119,7 +119,7 @@ module _ {E : Edition} {s : List ℕ} {c : Cells} {horizon bytes : ℕ} where
   finished-run w (crowded t f r p) count e = absurd (finished≢refused (sym e))
   finished-run w (whole b all) count e = record { begins = b; passes = all; listed = refl; counted = sym (count-of e) }
 
-  -- no run answers 15
+  -- no condition of a run is that of 15
   pub never-15 : (w : Written) → RunCondition E s c horizon bytes w → (place count : ℕ) → w .answer ≡ refused 15 place count → ⊥
   never-15 w (horizon-outside h) place count e = let n : _≡_ {A = ℕ} 1 15 = cc in omega arith
   never-15 w (sheet-refused {n} {p} h k r) place count e =
