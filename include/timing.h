@@ -70,8 +70,11 @@ enum timing_value {
     TIMING_NONE = 3     /* no value, printed Z */
 };
 
-/* A record of a listing: tick (4 bytes, the low byte first), node (1 byte), value (1 byte). */
-#define TIMING_RECORD_SIZE 6
+/*
+ * A record of a listing: tick (4 bytes), node (1 byte), value (1 byte), end (4 bytes), numbers with the low
+ * byte first. The node has the value from the tick on, up to the end.
+ */
+#define TIMING_RECORD_SIZE 10
 
 /* Limits. The counts of a sheet's nodes, modules, events and watched nodes: */
 #define TIMING_LEAST_NODES 1
@@ -133,12 +136,13 @@ void timing_check_strict(const uint8_t *sheet, size_t length, uint32_t answer[3]
 /*
  * Runs the sheet to the horizon and writes the records to the front of the listing, rising by tick
  * and then by node: each watched node's value at tick 0, and from then on its changes below the
- * horizon. An input is TIMING_UNKNOWN until its first event. A buffer takes bytes / TIMING_RECORD_SIZE
- * records, rounded down.
+ * horizon. A record's end is the tick of the node's next record. An input is TIMING_UNKNOWN until its
+ * first event. A buffer takes bytes / TIMING_RECORD_SIZE records, rounded down.
  *
- * Finished: the records are all there are. Refusals 1 to 18: none is written. TIMING_NO_ROOM: those
- * of all earlier ticks. TIMING_CROWDED: those and this tick's. The buffer keeps every byte past the
- * last record as it was.
+ * Finished: the records are all there are, and each node's last one ends at the horizon. Refusals 1 to
+ * 18: none is written. TIMING_NO_ROOM: those of all earlier ticks, each node's last one ending at this
+ * tick. TIMING_CROWDED: those and this tick's, each node's last one ending at the tick after. The buffer
+ * keeps every byte past the last record as it was.
  */
 void timing_run(const uint8_t *sheet, size_t length, uint32_t horizon, uint8_t *listing, size_t bytes,
                 uint32_t answer[3]);

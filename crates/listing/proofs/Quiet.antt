@@ -1,7 +1,7 @@
 -- A tick without records leaves what is shown as it is: every watched node has its value shown already. Assumes nothing.
 use borrow.Author.Tests.{eqb-true}
 use mathlib.Core.Bool.{Bool, true, false}
-use mathlib.Core.List.{List, [], _∷_}
+use mathlib.Core.List.{List, [], _∷_, _++_, append-nil}
 use mathlib.Core.Path.{_≡_, refl, sym}
 use native.Mathlib.Omega.{arith}
 use Prim.Native.Nat.{ℕ}
@@ -11,9 +11,8 @@ use lib.Seq.{set-getD}
 use Rattle.level.specs.Choice.{if_then_else_}
 use Rattle.network.specs.Listing.{Record}
 use Rattle.model.specs.Fresh.{fresh, showAll}
-use Rattle.listing.specs.Record.{written}
+use Rattle.listing.specs.Ends.{Holding}
 use Rattle.listing.specs.Step.{RecordsWritten}
-use Rattle.listing.proofs.Buffer.{written-none}
 
 shown-still : (t : ℕ) (values shown vs : List ℕ) → length (fresh t values shown vs) ≡ 0 → showAll values shown vs ≡ shown
 unfolding fresh showAll
@@ -27,16 +26,11 @@ shown-still t values shown (v ∷ vs) e = at (eqb (getD values v 0) (getD shown 
     at false q rest e = absurd (omega arith)
 
 -- and the listing as it is
-pub nothing-written : {n t : ℕ} {listing values shown watched : List ℕ} → length (fresh t values shown watched) ≡ 0 → length shown ≡ 256
-    → RecordsWritten listing n t watched values shown n listing shown
-nothing-written {n} {t} {listing} {values} {shown} {watched} e size =
-    record {
-      counted = omega arith;
-      bytes = empty (fresh t values shown watched) e;
-      now-shown = sym (shown-still t values shown watched e);
-      shown-size = size;
-    }
+pub nothing-written : (t : ℕ) {buffer : List ℕ} {horizon n : ℕ} {before : List Record} {listing values shown watched places : List ℕ} → length (fresh t values shown watched) ≡ 0 → length shown ≡ 256
+    → Holding buffer horizon before n listing places → RecordsWritten buffer horizon before (fresh t values shown watched) values shown watched n listing shown places
+nothing-written t {buffer} {horizon} {n} {before} {listing} {values} {shown} {watched} {places} e size h =
+    record { holding = same (fresh t values shown watched) e; now-shown = sym (shown-still t values shown watched e); shown-size = size }
   where
-    empty : (records : List Record) → length records ≡ 0 → listing ≡ written n records listing
-    empty [] z = written-none n listing
-    empty (r ∷ rs) z = absurd (omega arith)
+    same : (records : List Record) → length records ≡ 0 → Holding buffer horizon (before ++ records) n listing places
+    same [] z = rw append-nil h
+    same (r ∷ rs) z = absurd (omega arith)

@@ -1,15 +1,17 @@
 // The records of a tick: counted first, and then written.
-use crate::record::write_record;
+use crate::ends::write_value;
 use sheet::NODES;
 use sheet::WATCHED;
 use sheet::wide;
+ghost use mathlib.Core.List.{List, _++_};
 ghost use mathlib.Core.Path.{_≡_};
 ghost use Prim.Native.Nat.{ℕ, _+_, _*_, _≤_};
 ghost use lib.ListN.{length, take};
 ghost use Rattle.sheet.specs.Limits.{mostNodes, mostWatched};
+ghost use Rattle.network.specs.Listing.{Record};
 ghost use Rattle.network.specs.Buffer.{recordSize};
 ghost use Rattle.model.specs.Fresh.{fresh, showAll};
-ghost use Rattle.listing.specs.Record.{written};
+ghost use Rattle.listing.specs.Ends.{Holding};
 
 // How many of the first n watched nodes have a value that is not the one shown last.
 pub(crate) fn count_fresh(
@@ -38,16 +40,19 @@ pub(crate) fn write_fresh(
     listing: &mut [u8],
     at: usize,
     t: u32,
+    horizon: u32,
     watched: &[u8; WATCHED],
     n: usize,
     values: &[u8; NODES],
     shown: &[u8; NODES],
+    places: &mut [usize; NODES],
 ) -> usize
     requires { ⌜ (n ≤ mostWatched) × (length (now watched) ≡ mostWatched)
-        × (recordSize * (at + length (fresh t (now values) (now shown) (take n (now watched)))) ≤ length (now listing)) ⌝ }
-    ensures { λ r. ⌜ (r ≡ at + length (fresh t (now (values .entry)) (now (shown .entry)) (take n (now (watched .entry)))))
-        × (now (listing .exit)
-        ≡ written at (fresh t (now (values .entry)) (now (shown .entry)) (take n (now (watched .entry)))) (now (listing .entry))) ⌝ }
+        × (recordSize * (at + length (fresh t (now values) (now shown) (take n (now watched)))) ≤ length (now listing))
+        × ((buffer : List ℕ) × (before : List Record) × Holding buffer horizon before at (now listing) (now places)) ⌝ }
+    ensures { λ r. ⌜ ((buffer : List ℕ) (before : List Record) → Holding buffer horizon before at (now (listing .entry)) (now (places .entry))
+        → Holding buffer horizon (before ++ fresh t (now (values .entry)) (now (shown .entry)) (take n (now (watched .entry)))) r
+        (now (listing .exit)) (now (places .exit))) ⌝ }
 {
     let mut c = at;
     let mut k: usize = 0;
@@ -55,7 +60,7 @@ pub(crate) fn write_fresh(
         let node = watched[k];
         let v = wide(node);
         if values[v] != shown[v] {
-            write_record(listing, c, t, node, values[v]);
+            write_value(listing, c, t, horizon, node, values[v], places);
             c += 1;
         }
         k += 1;

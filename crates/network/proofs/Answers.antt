@@ -1,9 +1,9 @@
 -- What a run answers is told by how many records and pending changes there are: sheets and cells that agree in these give one answer. A finished run
 -- has written the whole listing; and only cells of nodes below the horizon count. Assumes nothing.
 use lib.Dec.{ltb}
-use lib.ListN.{length}
+use lib.ListN.{length, length-map}
 use mathlib.Core.Bool.{Bool, true, false}
-use mathlib.Core.List.{List, [], _∷_, _++_, List·Memᴰ, List·Memᴰ·head, List·Memᴰ·tail}
+use mathlib.Core.List.{List, [], _∷_, _++_, List·Memᴰ, List·Memᴰ·head, List·Memᴰ·tail, map}
 use mathlib.Core.Path.{_≡_, refl, sym, ap, ap₂, _∙_}
 use native.Mathlib.Nat.{le-step, lt-suc-self, le-refl}
 use native.Mathlib.Omega.{arith}
@@ -14,20 +14,24 @@ use Rattle.sheet.specs.Limits.{pendingLimit}
 use Rattle.sheet.specs.Outcome.{finished, refused}
 use Rattle.sheet.specs.Sheet.{Sheet, nodeCount, moduleCount, outputOf}
 use Rattle.network.specs.Buffer.{room}
+use Rattle.network.specs.Ends.{Ended, endedOf, endedListing}
 use Rattle.network.specs.Listing.{Record, changes, recordOf, recordsAt, listing, pendingOf, pending}
 use Rattle.network.specs.Run.{TickRow, tickRows, wrote, firstTick, writtenOf}
 use Rattle.network.specs.Timeline.{Cells}
 use Rattle.sheet.proofs.Each.{each-same}
 use Rattle.sheet.proofs.Rows.{finished≢refused}
 use Rattle.network.proofs.Count.{count}
+use Rattle.network.proofs.Ends.{next-same}
+use Rattle.network.proofs.Equation.{map-same}
 use Rattle.network.proofs.Listed.{each-lengths}
+use Rattle.network.proofs.Listing.{listed-shown}
 use Rattle.network.proofs.PendingCount.{changes-same, pending-of-same}
 use Rattle.network.proofs.Wired.{Wired}
 
 -- rows that answer alike: the same number, tick and test, and as many records left
 data Alike : List TickRow → List TickRow → Type 0 where
   no-row : Alike [] []
-  one-more : {n t : ℕ} {a b : Bool} {x y : List Record} {rs qs : List TickRow} → a ≡ b → length x ≡ length y → Alike rs qs
+  one-more : {n t : ℕ} {a b : Bool} {x y : List Ended} {rs qs : List TickRow} → a ≡ b → length x ≡ length y → Alike rs qs
       → Alike (record { number = n; tick = t; met = a; left = x } ∷ rs) (record { number = n; tick = t; met = b; left = y } ∷ qs)
 
 alike-append : {rs qs rs′ qs′ : List TickRow} → Alike rs qs → Alike rs′ qs′ → Alike (rs ++ rs′) (qs ++ qs′)
@@ -39,7 +43,7 @@ unfolding each
 alike-each zero f h a = no-row
 alike-each (suc n) f h a = alike-append (alike-each n f h (λ t l. a t (le-step l))) (a n (lt-suc-self n))
 
-alike-answer : {rs qs : List TickRow} (x y : List Record) → Alike rs qs → length x ≡ length y → firstTick rs x .answer ≡ firstTick qs y .answer
+alike-answer : {rs qs : List TickRow} (x y : List Ended) → Alike rs qs → length x ≡ length y → firstTick rs x .answer ≡ firstTick qs y .answer
 unfolding firstTick
 alike-answer x y no-row e = ap finished e
 alike-answer x y (one-more {n} {t} {b} {x = x′} {y = y′} {rs} {qs} m l r) e =
@@ -56,15 +60,18 @@ pub same-answer : (S P : Sheet) (n q : Cells) (horizon bytes : ℕ)
     → writtenOf P q horizon bytes .answer ≡ writtenOf S n horizon bytes .answer
 unfolding writtenOf
 same-answer S P n q horizon bytes records waiting =
-    alike-answer _ _ (alike-each horizon (tickRows P q horizon bytes) (tickRows S n horizon bytes) at) (records horizon (le-refl horizon))
+    alike-answer _ _ (alike-each horizon (tickRows P q horizon bytes) (tickRows S n horizon bytes) at) (lengths horizon (le-refl horizon))
   where
+    lengths : (k : ℕ) → k ≤ horizon → length (endedListing P q k) ≡ length (endedListing S n k)
+    lengths k h = length-map (listing P q k) (endedOf q k) ∙ records k h ∙ sym (length-map (listing S n k) (endedOf n k))
+
     at : (t : ℕ) → t < horizon → Alike (tickRows P q horizon bytes t) (tickRows S n horizon bytes t)
     at t l =
-        one-more (ap (ltb (room bytes)) (records (suc t) l)) (records t (omega arith))
-        (one-more (ap (ltb pendingLimit) (waiting t l)) (records (suc t) l) no-row)
+        one-more (ap (ltb (room bytes)) (records (suc t) l)) (lengths t (omega arith))
+        (one-more (ap (ltb pendingLimit) (waiting t l)) (lengths (suc t) l) no-row)
 
 -- a finished run has written all
-all-written : (rs : List TickRow) (all : List Record) (count : ℕ) → firstTick rs all .answer ≡ finished count → firstTick rs all .records ≡ all
+all-written : (rs : List TickRow) (all : List Ended) (count : ℕ) → firstTick rs all .answer ≡ finished count → firstTick rs all .records ≡ all
 unfolding firstTick
 all-written [] all count e = refl
 all-written (r ∷ rs) all count e = go (r .met) e (all-written rs all count)
@@ -75,7 +82,7 @@ all-written (r ∷ rs) all count e = go (r .met) e (all-written rs all count)
     go true e before = absurd (finished≢refused (sym e))
     go false e before = before e
 
-pub whole-listing : (S : Sheet) (c : Cells) (horizon bytes count : ℕ) → writtenOf S c horizon bytes .answer ≡ finished count → writtenOf S c horizon bytes .records ≡ listing S c horizon
+pub whole-listing : (S : Sheet) (c : Cells) (horizon bytes count : ℕ) → writtenOf S c horizon bytes .answer ≡ finished count → writtenOf S c horizon bytes .records ≡ endedListing S c horizon
 unfolding writtenOf
 whole-listing S c horizon bytes count e = all-written _ _ count e
 
@@ -96,6 +103,14 @@ module _ (S : Sheet) (w : Wired S) (watched : (v : ℕ) → List·Memᴰ v (S .w
       each-same k (λ t. recordsAt c t (S .watched)) (λ t. recordsAt q t (S .watched))
       (λ t l. records-same c q t (S .watched) (λ u v i m. same u v (omega arith) (watched v m)))
 
+  ended-local : (k : ℕ) → k ≤ horizon → endedListing S c k ≡ endedListing S q k
+  ended-local k h =
+      map-same (endedOf c k) (endedOf q k) (listing S c k)
+      (λ r m.
+      let s = listed-shown S c k r .0 m in
+      ap (λ e. record { start = r; end = e }) (next-same c q k (r .node) (r .node) (λ u l. same u (r .node) (omega arith) (watched (r .node) (s .watched))) (r .tick) (s .below)))
+      ∙ ap (map (endedOf q k)) (listing-local k h)
+
   pending-local : (t : ℕ) → length (pending S c horizon t) ≡ length (pending S q horizon t)
   pending-local t =
       each-lengths (moduleCount S) (pendingOf S c horizon t) (pendingOf S q horizon t)
@@ -103,11 +118,11 @@ module _ (S : Sheet) (w : Wired S) (watched : (v : ℕ) → List·Memᴰ v (S .w
 
   pub written-local : (bytes : ℕ) → writtenOf S c horizon bytes ≡ writtenOf S q horizon bytes
   unfolding writtenOf
-  written-local bytes = ap₂ firstTick (each-same horizon (tickRows S c horizon bytes) (tickRows S q horizon bytes) at) (listing-local horizon (le-refl horizon))
+  written-local bytes = ap₂ firstTick (each-same horizon (tickRows S c horizon bytes) (tickRows S q horizon bytes) at) (ended-local horizon (le-refl horizon))
     where
       at : (t : ℕ) → t < horizon → tickRows S c horizon bytes t ≡ tickRows S q horizon bytes t
       at t l =
           λ i.
-          record { number = 19; tick = t; met = ltb (room bytes) (length (listing-local (suc t) l i)); left = listing-local t (omega arith) i }
-          ∷ record { number = 20; tick = t; met = ltb pendingLimit (pending-local t i); left = listing-local (suc t) l i }
+          record { number = 19; tick = t; met = ltb (room bytes) (length (listing-local (suc t) l i)); left = ended-local t (omega arith) i }
+          ∷ record { number = 20; tick = t; met = ltb pendingLimit (pending-local t i); left = ended-local (suc t) l i }
           ∷ []

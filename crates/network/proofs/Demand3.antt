@@ -15,7 +15,7 @@ use Rattle.sheet.specs.declared.Edition.{Edition}
 use Rattle.format.specs.Accepted.{Accepted, AcceptedIn, Known}
 use Rattle.format.specs.Encode.{Bytes}
 use Rattle.network.specs.Demand3.{RunsToHorizon, SameRenumbered, ValidOrders, workedFrom}
-use Rattle.network.specs.Listing.{listing}
+use Rattle.network.specs.Ends.{endedListing}
 use Rattle.network.specs.Order.{Listed, ValidOrder}
 use Rattle.network.specs.Renumbering.{Permutation, renumbered, renumberedBytes, renumberedListing}
 use Rattle.network.specs.Buffer.{bufferAfter}
@@ -41,7 +41,7 @@ use Rattle.network.proofs.WorkingOrder.{working-order}
 -- N and P, whose nodes are N's renumbered by to, with their cells
 record Agree (N P : Sheet) (to : ℕ → ℕ) (horizon bytes : ℕ) (n q : Cells) : Type 0 where
   cells : (t v : ℕ) → t < horizon → v < nodeCount N → n t v ≡ q t (to v)
-  listings : listing P q horizon ≡ renumberedListing to (listing N n horizon)
+  listings : endedListing P q horizon ≡ renumberedListing to (endedListing N n horizon)
   answers : writtenOf P q horizon bytes .answer ≡ writtenOf N n horizon bytes .answer
 
 -- over sheets
@@ -176,10 +176,10 @@ demand-3 {E} known s horizon bytes runs π order each-once ordersN ordersP valid
     finishes : writtenOf N n horizon bytes .answer ≡ finished (runs .count)
     finishes = ap (λ w. w .answer) (sym run-of-N) ∙ runs .answer
 
-    listing-of-N : ran E s horizon bytes .records ≡ listing N n horizon
+    listing-of-N : ran E s horizon bytes .records ≡ endedListing N n horizon
     listing-of-N = ap (λ w. w .records) run-of-N ∙ whole-listing N n horizon bytes (runs .count) finishes
 
-    listing-of-P : ran E p′ horizon bytes .records ≡ listing P′ q horizon
+    listing-of-P : ran E p′ horizon bytes .records ≡ endedListing P′ q horizon
     listing-of-P = ap (λ w. w .records) run-of-P ∙ whole-listing P′ q horizon bytes (runs .count) (both .answers ∙ finishes)
 
 -- such orders exist: the working order is one

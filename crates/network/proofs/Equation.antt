@@ -31,7 +31,7 @@ output-local a a′ initial rule d t same = late (ltb t d) refl
         let d≤t : d ≤ t = ltb-false t d e in
         comes-to-local a a′ initial rule (t - d) (λ w k. same w (omega arith))
 
-pub map-same : (f g : ℕ → ℕ) (l : List ℕ) → ((v : ℕ) → List·Memᴰ v l → f v ≡ g v) → map f l ≡ map g l
+pub map-same {ℓ κ} : {A : Type ℓ} {B : Type κ} (f g : A → B) (l : List A) → ((v : A) → List·Memᴰ v l → f v ≡ g v) → map f l ≡ map g l
 map-same f g [] same = refl
 map-same f g (v ∷ l) same = ap₂ _∷_ (same v (List·Memᴰ·head refl)) (map-same f g l (λ w m. same w (List·Memᴰ·tail m)))
 

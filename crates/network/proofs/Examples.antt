@@ -14,7 +14,8 @@ use Rattle.format.specs.Encode.{allBytes}
 use Rattle.network.specs.Buffer.{bufferAfter}
 use Rattle.network.specs.Examples.{workedSheet, memorySheet, startSheet, examples}
 use Rattle.network.specs.LaterEvents.{eventsBelow}
-use Rattle.network.specs.Listing.{recordsAt, Record}
+use Rattle.network.specs.Ends.{firstFrom, Ended}
+use Rattle.network.specs.Listing.{recordsAt}
 use Rattle.network.specs.Run.{wrote, firstTick, writtenOf, ran}
 use Rattle.network.specs.Timeline.{given, driveCell, latest}
 use Rattle.network.specs.Working.{unworked, work, workAll, worked}
@@ -29,29 +30,29 @@ pub accepted-examples : (checked firstEdition workedSheet ≡ finished 0) × (ch
 unfolding sheetOf checkedBy rows bytesRows first notAboveEvent notAboveWatched leadsOver anyBelow each
 accepted-examples = (refl, refl)
 
-abbrev listed : ℕ → ℕ → ℕ → Record
-listed t v x = record { tick = t; node = v; value = x }
+abbrev listed : ℕ → ℕ → ℕ → ℕ → Ended
+listed t v x e = record { start = record { tick = t; node = v; value = x }; end = e }
 
--- the worked run, from its bytes: a buffer of 36 bytes takes its six records
-pub worked-run : ran firstEdition workedSheet 12 36 ≡ wrote (finished 6) (listed 0 0 0 ∷ listed 0 1 2 ∷ listed 3 1 1 ∷ listed 5 0 1 ∷ listed 8 1 0 ∷ listed 11 1 1 ∷ [])
-unfolding sheetOf checkedBy rows bytesRows first notAboveEvent notAboveWatched workingOrder leadingTo leadsOver anyBelow each given driveCell latest unworked work workAll worked recordsAt firstTick writtenOf ran
+-- the worked run, from its bytes: a buffer of 60 bytes takes its six records
+pub worked-run : ran firstEdition workedSheet 12 60 ≡ wrote (finished 6) (listed 0 0 0 5 ∷ listed 0 1 2 3 ∷ listed 3 1 1 8 ∷ listed 5 0 1 12 ∷ listed 8 1 0 11 ∷ listed 11 1 1 12 ∷ [])
+unfolding sheetOf checkedBy rows bytesRows first notAboveEvent notAboveWatched workingOrder leadingTo leadsOver anyBelow each given driveCell latest unworked work workAll worked recordsAt firstFrom firstTick writtenOf ran
 worked-run = refl
 
--- 35 give refusal 19 at tick 11 with 5 records
-pub short-run : ran firstEdition workedSheet 12 35 ≡ wrote (refused 19 11 5) (listed 0 0 0 ∷ listed 0 1 2 ∷ listed 3 1 1 ∷ listed 5 0 1 ∷ listed 8 1 0 ∷ [])
-unfolding sheetOf checkedBy rows bytesRows first notAboveEvent notAboveWatched workingOrder leadingTo leadsOver anyBelow each given driveCell latest unworked work workAll worked recordsAt firstTick writtenOf ran
+-- 59 give refusal 19 at tick 11 with 5 records, and both nodes' values end there
+pub short-run : ran firstEdition workedSheet 12 59 ≡ wrote (refused 19 11 5) (listed 0 0 0 5 ∷ listed 0 1 2 3 ∷ listed 3 1 1 8 ∷ listed 5 0 1 11 ∷ listed 8 1 0 11 ∷ [])
+unfolding sheetOf checkedBy rows bytesRows first notAboveEvent notAboveWatched workingOrder leadingTo leadsOver anyBelow each given driveCell latest unworked work workAll worked recordsAt firstFrom firstTick writtenOf ran
 short-run = refl
 
--- and in a buffer of 38 bytes, each 99 before, the six records' bytes stand first and the last two bytes stay
-pub worked-buffer : bufferAfter (ran firstEdition workedSheet 12 38 .records) (replicate 38 99)
-    ≡ 0 ∷ 0 ∷ 0 ∷ 0 ∷ 0 ∷ 0
-    ∷ 0 ∷ 0 ∷ 0 ∷ 0 ∷ 1 ∷ 2
-    ∷ 3 ∷ 0 ∷ 0 ∷ 0 ∷ 1 ∷ 1
-    ∷ 5 ∷ 0 ∷ 0 ∷ 0 ∷ 0 ∷ 1
-    ∷ 8 ∷ 0 ∷ 0 ∷ 0 ∷ 1 ∷ 0
-    ∷ 11 ∷ 0 ∷ 0 ∷ 0 ∷ 1 ∷ 1
+-- and in a buffer of 62 bytes, each 99 before, the six records' bytes stand first and the last two bytes stay
+pub worked-buffer : bufferAfter (ran firstEdition workedSheet 12 62 .records) (replicate 62 99)
+    ≡ 0 ∷ 0 ∷ 0 ∷ 0 ∷ 0 ∷ 0 ∷ 5 ∷ 0 ∷ 0 ∷ 0
+    ∷ 0 ∷ 0 ∷ 0 ∷ 0 ∷ 1 ∷ 2 ∷ 3 ∷ 0 ∷ 0 ∷ 0
+    ∷ 3 ∷ 0 ∷ 0 ∷ 0 ∷ 1 ∷ 1 ∷ 8 ∷ 0 ∷ 0 ∷ 0
+    ∷ 5 ∷ 0 ∷ 0 ∷ 0 ∷ 0 ∷ 1 ∷ 12 ∷ 0 ∷ 0 ∷ 0
+    ∷ 8 ∷ 0 ∷ 0 ∷ 0 ∷ 1 ∷ 0 ∷ 11 ∷ 0 ∷ 0 ∷ 0
+    ∷ 11 ∷ 0 ∷ 0 ∷ 0 ∷ 1 ∷ 1 ∷ 12 ∷ 0 ∷ 0 ∷ 0
     ∷ 99 ∷ 99 ∷ []
-unfolding sheetOf checkedBy rows bytesRows first notAboveEvent notAboveWatched workingOrder leadingTo leadsOver anyBelow each given driveCell latest unworked work workAll worked recordsAt firstTick writtenOf ran bufferAfter allBytes
+unfolding sheetOf checkedBy rows bytesRows first notAboveEvent notAboveWatched workingOrder leadingTo leadsOver anyBelow each given driveCell latest unworked work workAll worked recordsAt firstFrom firstTick writtenOf ran bufferAfter allBytes
 worked-buffer = refl
 
 -- inputs that start unknown: a check accepts them, a strict check does not, and a run lists them as X
@@ -59,10 +60,10 @@ pub start-checked : (checked firstEdition startSheet ≡ finished 0) × (checked
 unfolding sheetOf checkedBy rows bytesRows first notAboveEvent notAboveWatched leadsOver anyBelow each
 start-checked = (refl, refl)
 
-pub start-run : ran firstEdition startSheet 6 72
+pub start-run : ran firstEdition startSheet 6 120
     ≡ wrote (finished 12)
-    (listed 0 0 2 ∷ listed 0 1 2 ∷ listed 0 2 0 ∷ listed 0 3 3 ∷ listed 0 4 1 ∷ listed 1 3 0 ∷ listed 2 2 1 ∷ listed 2 4 2 ∷ listed 3 1 1 ∷ listed 3 3 1 ∷ listed 4 2 0 ∷ listed 4 4 1 ∷ [])
-unfolding sheetOf checkedBy rows bytesRows first notAboveEvent notAboveWatched workingOrder leadingTo leadsOver anyBelow each given driveCell latest unworked work workAll worked recordsAt firstTick writtenOf ran
+    (listed 0 0 2 6 ∷ listed 0 1 2 3 ∷ listed 0 2 0 2 ∷ listed 0 3 3 1 ∷ listed 0 4 1 2 ∷ listed 1 3 0 3 ∷ listed 2 2 1 4 ∷ listed 2 4 2 4 ∷ listed 3 1 1 6 ∷ listed 3 3 1 6 ∷ listed 4 2 0 6 ∷ listed 4 4 1 6 ∷ [])
+unfolding sheetOf checkedBy rows bytesRows first notAboveEvent notAboveWatched workingOrder leadingTo leadsOver anyBelow each given driveCell latest unworked work workAll worked recordsAt firstFrom firstTick writtenOf ran
 start-run = refl
 
 -- of the worked run's two events, at ticks 0 and 5, one is below horizon 5, and both are below horizon 6

@@ -8,6 +8,7 @@ pub mod Wired
 pub mod Permuting
 pub mod RenumberedModule
 pub mod Listed
+pub mod Ends
 pub mod Listing
 pub mod RenumberedListing
 pub mod Fits

@@ -1,8 +1,8 @@
--- Demand 2 on the definitions: a record stands in the listing exactly when it shows a watched node's first value or change; they rise, and no other list is such. Assumes nothing.
+-- Demand 2 on the definitions: a record stands in the listing exactly when it shows a watched node's first value or change, with the end that the timelines give; they rise, and no other list is such. Assumes nothing.
 use lib.Dec.{T}
 use lib.ListN.{length, getD}
 use mathlib.Core.Bool.{Bool, true, false}
-use mathlib.Core.List.{List, [], _∷_, List·Memᴰ, List·Memᴰ·head, List·Memᴰ·tail, List·Memᴰ·not-nil, List·Memᴰ·cases-cons}
+use mathlib.Core.List.{List, [], _∷_, List·Memᴰ, List·Memᴰ·head, List·Memᴰ·tail, List·Memᴰ·not-nil, List·Memᴰ·cases-cons, map, Memᴰ·map, Memᴰ·of-map, Memᴰ·cast}
 use mathlib.Core.Logic.{_↔_, _⊎_, inl, inr}
 use mathlib.Core.Path.{_≡_, refl, sym, ap, _∙_, subst}
 use native.Mathlib.Omega.{arith}
@@ -10,11 +10,13 @@ use Prim.Native.Nat.{ℕ, _<_}
 use Rattle.level.specs.Choice.{if_then_else_}
 use Rattle.sheet.specs.Sheet.{Sheet, nodeCount}
 use Rattle.format.specs.Accepted.{Accepted}
-use Rattle.network.specs.Demand2.{Shown, Lists}
+use Rattle.network.specs.Demand2.{Shown, ShownUntil, Lists}
+use Rattle.network.specs.Ends.{Ended, endedKey, endedOf, endedListing}
 use Rattle.network.specs.Listing.{Record, recordKey, changes, recordOf, recordsAt, listing}
 use Rattle.network.specs.Timeline.{Cells}
 use Rattle.level.proofs.Computed.{below}
 use Rattle.sheet.proofs.Each.{each-mem}
+use Rattle.network.proofs.Ends.{next-lasts, lasts-once}
 use Rattle.network.proofs.Rising.{Pairs, Up, pairs-of, pairs-at, pairs-each, rising-unique, members-all}
 
 module _ (c : Cells) (t : ℕ) where
@@ -56,7 +58,7 @@ module _ (c : Cells) (t : ℕ) where
       at false q = q
 
 module _ (S : Sheet) (c : Cells) (horizon : ℕ) where
-  listed-shown : (r : Record) → List·Memᴰ r (listing S c horizon) ↔ Shown S c horizon r
+  pub listed-shown : (r : Record) → List·Memᴰ r (listing S c horizon) ↔ Shown S c horizon r
   listed-shown r = (shown, all)
     where
       shown : List·Memᴰ r (listing S c horizon) → Shown S c horizon r
@@ -70,14 +72,34 @@ module _ (S : Sheet) (c : Cells) (horizon : ℕ) where
           each-mem horizon (λ t. recordsAt c t (S .watched)) .1
           (r .tick, h .below, records-mem c (r .tick) (S .watched) .1 (r .node, h .watched, h .change, λ i. record { tick = r .tick; node = r .node; value = h .value i }))
 
+  -- with the ends that the cells give
+  ended-shown : (r : Ended) → List·Memᴰ r (endedListing S c horizon) ↔ ShownUntil S c horizon r
+  ended-shown r = (shown, all)
+    where
+      shown : List·Memᴰ r (endedListing S c horizon) → ShownUntil S c horizon r
+      shown m =
+          let a = Memᴰ·of-map (endedOf c horizon) (listing S c horizon) m in
+          let h = listed-shown (a .0) .0 (a .1) in
+          subst (ShownUntil S c horizon) (a .2) (record { start = h; end = next-lasts c horizon (a .0 .node) (a .0 .tick) (h .below) })
+
+      all : ShownUntil S c horizon r → List·Memᴰ r (endedListing S c horizon)
+      all h =
+          let one = lasts-once c horizon (r .start .node) (r .start .tick) _ _ (h .end) (next-lasts c horizon (r .start .node) (r .start .tick) (h .start .below)) in
+          Memᴰ·cast (λ i. record { start = r .start; end = one i }) (Memᴰ·map (endedOf c horizon) (listed-shown (r .start) .1 (h .start)))
+
+  ended-rise : (records : List Record) → Pairs (Up recordKey) records → Pairs (Up endedKey) (map (endedOf c horizon) records)
+  ended-rise [] p = tt
+  ended-rise (r ∷ rs) p =
+      (λ b m. let a = Memᴰ·of-map (endedOf c horizon) rs m in subst (λ b. recordKey r < endedKey b) (a .2) (p .0 (a .0) (a .1)), ended-rise rs (p .1))
+
   -- nodes are bytes, so a later tick has the greater recordKey
   pub lists : ((j k : ℕ) → j < k → k < length (S .watched) → getD (S .watched) j 0 < getD (S .watched) k 0)
-      → ((v : ℕ) → List·Memᴰ v (S .watched) → v < 256) → Lists S c horizon (listing S c horizon)
+      → ((v : ℕ) → List·Memᴰ v (S .watched) → v < 256) → Lists S c horizon (endedListing S c horizon)
   lists rises bytes =
       record {
-        shown = λ r. listed-shown r .0;
-        all = λ r. listed-shown r .1;
-        rise = pairs-at (Up recordKey) (listing S c horizon) (pairs-each (Up recordKey) horizon (λ t. recordsAt c t (S .watched)) (λ t. records-rise c t (S .watched) (pairs-of (Up (λ v. v)) (S .watched) 0 rises)) later);
+        shown = λ r. ended-shown r .0;
+        all = λ r. ended-shown r .1;
+        rise = pairs-at (Up endedKey) (endedListing S c horizon) (ended-rise (listing S c horizon) (pairs-each (Up recordKey) horizon (λ t. recordsAt c t (S .watched)) (λ t. records-rise c t (S .watched) (pairs-of (Up (λ v. v)) (S .watched) 0 rises)) later));
       }
     where
       later : (t u : ℕ) → t < u → (a b : Record) → List·Memᴰ a (recordsAt c t (S .watched)) → List·Memᴰ b (recordsAt c u (S .watched)) → recordKey a < recordKey b
@@ -90,8 +112,8 @@ module _ (S : Sheet) (c : Cells) (horizon : ℕ) where
           omega arith
 
   -- no other list has these records and rises
-  pub lists-unique : (l m : List Record) → Lists S c horizon l → Lists S c horizon m → l ≡ m
-  lists-unique l m L M = rising-unique recordKey l m (L .rise) (M .rise) (λ r. (λ i. M .all r (L .shown r i), λ i. L .all r (M .shown r i)))
+  pub lists-unique : (l m : List Ended) → Lists S c horizon l → Lists S c horizon m → l ≡ m
+  lists-unique l m L M = rising-unique endedKey l m (L .rise) (M .rise) (λ r. (λ i. M .all r (L .shown r i), λ i. L .all r (M .shown r i)))
 
 -- of an accepted sheet
 module _ (S : Sheet) (a : Accepted S) where
@@ -101,5 +123,5 @@ module _ (S : Sheet) (a : Accepted S) where
   pub watched-bytes : (v : ℕ) → List·Memᴰ v (S .watched) → v < 256
   watched-bytes v m = omega (arith, watched-nodes v m, a .nodes)
 
-  pub listing-of : (c : Cells) (horizon : ℕ) → Lists S c horizon (listing S c horizon)
+  pub listing-of : (c : Cells) (horizon : ℕ) → Lists S c horizon (endedListing S c horizon)
   listing-of c horizon = lists S c horizon (a .watched-rise) watched-bytes

@@ -13,7 +13,8 @@ use Rattle.sheet.specs.Limits.{pendingLimit}
 use Rattle.sheet.specs.Outcome.{finished, refused}
 use Rattle.sheet.specs.Sheet.{Sheet}
 use Rattle.network.specs.Buffer.{room}
-use Rattle.network.specs.Listing.{Record, listing, pending}
+use Rattle.network.specs.Ends.{Ended, endedListing}
+use Rattle.network.specs.Listing.{listing, pending}
 use Rattle.network.specs.Run.{TickRow, tickRows, Written, wrote, firstTick, writtenOf}
 use Rattle.network.specs.RunConditions.{Passed}
 use Rattle.network.specs.Timeline.{Cells}
@@ -24,7 +25,7 @@ firstOr : List TickRow → Written → Written
 firstOr [] w = w
 firstOr (r ∷ rs) w = if r .met then wrote (refused (r .number) (r .tick) (length (r .left))) (r .left) else firstOr rs w
 
-first-or : (xs : List TickRow) (all : List Record) → firstTick xs all ≡ firstOr xs (wrote (finished (length all)) all)
+first-or : (xs : List TickRow) (all : List Ended) → firstTick xs all ≡ firstOr xs (wrote (finished (length all)) all)
 unfolding firstTick firstOr
 first-or [] all = refl
 first-or (r ∷ rs) all = ap (λ w. if r .met then wrote (refused (r .number) (r .tick) (length (r .left))) (r .left) else w) (first-or rs all)
@@ -60,20 +61,20 @@ module _ (S : Sheet) (c : Cells) (horizon bytes : ℕ) where
 
     decided : t < horizon → writtenOf S c horizon bytes ≡ o
     unfolding writtenOf rowsAt
-    decided h = first-or (each horizon rowsAt) (listing S c horizon) ∙ decides horizon _ h
+    decided h = first-or (each horizon rowsAt) (endedListing S c horizon) ∙ decides horizon _ h
 
   pub full : (t : ℕ) → t < horizon → ((u : ℕ) → u < t → Passed S c horizon bytes u) → room bytes < length (listing S c (suc t))
-      → writtenOf S c horizon bytes ≡ wrote (refused 19 t (length (listing S c t))) (listing S c t)
+      → writtenOf S c horizon bytes ≡ wrote (refused 19 t (length (endedListing S c t))) (endedListing S c t)
   unfolding firstOr rowsAt
   full t h before over = decided t before _ (λ w. simp (lt-ltb (room bytes) (length (listing S c (suc t))) over)) h
 
   pub crowded : (t : ℕ) → t < horizon → ((u : ℕ) → u < t → Passed S c horizon bytes u) → length (listing S c (suc t)) ≤ room bytes → pendingLimit < length (pending S c horizon t)
-      → writtenOf S c horizon bytes ≡ wrote (refused 20 t (length (listing S c (suc t)))) (listing S c (suc t))
+      → writtenOf S c horizon bytes ≡ wrote (refused 20 t (length (endedListing S c (suc t)))) (endedListing S c (suc t))
   unfolding firstOr rowsAt
   crowded t h before fits over =
       decided t before _
       (λ w. simp (le-ltb (room bytes) (length (listing S c (suc t))) fits, lt-ltb pendingLimit (length (pending S c horizon t)) over)) h
 
-  pub whole : ((u : ℕ) → u < horizon → Passed S c horizon bytes u) → writtenOf S c horizon bytes ≡ wrote (finished (length (listing S c horizon))) (listing S c horizon)
+  pub whole : ((u : ℕ) → u < horizon → Passed S c horizon bytes u) → writtenOf S c horizon bytes ≡ wrote (finished (length (endedListing S c horizon))) (endedListing S c horizon)
   unfolding writtenOf rowsAt
-  whole all = first-or (each horizon rowsAt) (listing S c horizon) ∙ passed-ticks horizon _ all
+  whole all = first-or (each horizon rowsAt) (endedListing S c horizon) ∙ passed-ticks horizon _ all

@@ -22,7 +22,8 @@ use Rattle.format.proofs.Accepted.{accepted}
 use Rattle.format.proofs.Table.{strict-at-15}
 use Rattle.format.proofs.Theorems.{refusals, no-refusal}
 use Rattle.network.specs.Buffer.{room}
-use Rattle.network.specs.Listing.{Record, listing, pending}
+use Rattle.network.specs.Ends.{Ended, endedListing}
+use Rattle.network.specs.Listing.{listing, pending}
 use Rattle.network.specs.Run.{Written, ran, horizonOutside, writtenOf}
 use Rattle.network.specs.RunConditions.{Passes, Begins, RunCondition, horizon-outside, sheet-refused, no-room, crowded, whole}
 use Rattle.network.specs.Satisfied.{Satisfied}
@@ -101,10 +102,10 @@ module _ {E : Edition} (known : Known E) (s : List ℕ) (horizon bytes : ℕ) (c
   run-conditions w = (λ e. subst (RunCondition E s cells horizon bytes) (sym (writes (some .0) (some .1)) ∙ e) (some .1), writes w)
 
 -- A run that has finished: it began, every tick passed, and all records are written and counted.
-pub record FinishedRun (E : Edition) (s : List ℕ) (c : Cells) (horizon bytes count : ℕ) (records : List Record) : Type 0 where
+pub record FinishedRun (E : Edition) (s : List ℕ) (c : Cells) (horizon bytes count : ℕ) (records : List Ended) : Type 0 where
   pub begins : Begins E s horizon
   pub passes : (t : ℕ) → t < horizon → Passes E s c horizon bytes t
-  pub listed : records ≡ listing (sheetOf E s) c horizon
+  pub listed : records ≡ endedListing (sheetOf E s) c horizon
   pub counted : count ≡ length records
 
 count-of : {m n : ℕ} → finished m ≡ finished n → m ≡ n

@@ -4,13 +4,14 @@ use lib.ListN.{length, getD}
 use mathlib.Core.List.{List, List·Memᴰ}
 use mathlib.Core.Logic.{_↔_}
 use mathlib.Core.Path.{_≡_}
-use Prim.Native.Nat.{ℕ, _<_}
+use Prim.Native.Nat.{ℕ, _<_, _≤_}
 use Rattle.sheet.specs.declared.Edition.{Edition}
 use Rattle.sheet.specs.Outcome.{finished}
 use Rattle.sheet.specs.Sheet.{Sheet}
 use Rattle.sheet.specs.Layout.{sheetOf}
 use Rattle.network.specs.Timeline.{Cells}
-use Rattle.network.specs.Listing.{Record, recordKey, changes}
+use Rattle.network.specs.Listing.{Record, changes}
+use Rattle.network.specs.Ends.{Ended, endedKey}
 use Rattle.network.specs.Run.{Written, ran}
 use Rattle.network.specs.RunConditions.{RunCondition}
 
@@ -21,11 +22,23 @@ pub record Shown (S : Sheet) (c : Cells) (horizon : ℕ) (r : Record) : Type 0 w
   pub change : T (changes c (r .node) (r .tick))
   pub value : r .value ≡ c (r .tick) (r .node)
 
+-- The end of the value that a node has from tick t on: up to it every cell is the same, and there the node changes, or it is the bound.
+pub record Lasts (c : Cells) (bound v t end : ℕ) : Type 0 where
+  pub later : t < end
+  pub within : end ≤ bound
+  pub same : (u : ℕ) → t ≤ u → u < end → c u v ≡ c t v
+  pub change : end < bound → T (changes c v end)
+
+-- such a record, with the end that the timelines give
+pub record ShownUntil (S : Sheet) (c : Cells) (horizon : ℕ) (r : Ended) : Type 0 where
+  pub start : Shown S c horizon (r .start)
+  pub end : Lasts c horizon (r .start .node) (r .start .tick) (r .end)
+
 -- A listing has exactly these records; they rise by tick, then by node, so none stands twice.
-pub record Lists (S : Sheet) (c : Cells) (horizon : ℕ) (records : List Record) : Type 0 where
-  pub shown : (r : Record) → List·Memᴰ r records → Shown S c horizon r
-  pub all : (r : Record) → Shown S c horizon r → List·Memᴰ r records
-  pub rise : (j k : ℕ) → j < k → k < length records → (d : Record) → recordKey (getD records j d) < recordKey (getD records k d)
+pub record Lists (S : Sheet) (c : Cells) (horizon : ℕ) (records : List Ended) : Type 0 where
+  pub shown : (r : Ended) → List·Memᴰ r records → ShownUntil S c horizon r
+  pub all : (r : Ended) → ShownUntil S c horizon r → List·Memᴰ r records
+  pub rise : (j k : ℕ) → j < k → k < length records → (d : Ended) → endedKey (getD records j d) < endedKey (getD records k d)
 
 -- What a run of the bytes s answers and writes, by the cells c of a set of timelines that satisfies the sheet.
 pub record RunOf (e : Edition) (s : List ℕ) (horizon bytes : ℕ) (c : Cells) : Type 0 where

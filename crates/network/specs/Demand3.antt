@@ -11,7 +11,7 @@ use Rattle.network.specs.Timeline.{Cells}
 use Rattle.network.specs.Satisfied.{Satisfied}
 use Rattle.network.specs.Working.{worked}
 use Rattle.network.specs.Order.{ValidOrder}
-use Rattle.network.specs.Listing.{listing}
+use Rattle.network.specs.Ends.{endedListing}
 use Rattle.network.specs.Run.{ran}
 use Rattle.network.specs.Renumbering.{renumberedListing}
 
@@ -33,8 +33,8 @@ pub record SameRenumbered (e : Edition) (s p : List ℕ) (to : ℕ → ℕ) (hor
   -- every node has the same cells in both
   pub same-cells : (t v : ℕ) → t < horizon → v < nodeCount (sheetOf e s) → n t v ≡ q t (to v)
   -- the library's listing of each is exactly the one these cells give
-  pub listing-of-N : ran e s horizon bytes .records ≡ listing (sheetOf e s) n horizon
-  pub listing-of-P : ran e p horizon bytes .records ≡ listing (sheetOf e p) q horizon
+  pub listing-of-N : ran e s horizon bytes .records ≡ endedListing (sheetOf e s) n horizon
+  pub listing-of-P : ran e p horizon bytes .records ≡ endedListing (sheetOf e p) q horizon
   -- P's answer is N's
   pub same-answer : ran e p horizon bytes .answer ≡ ran e s horizon bytes .answer
   -- P's listing is N's renumbered and sorted again

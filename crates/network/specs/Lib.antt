@@ -4,6 +4,7 @@ pub mod Satisfied
 pub mod Working
 pub mod Order
 pub mod Listing
+pub mod Ends
 pub mod Buffer
 pub mod Run
 pub mod Renumbering

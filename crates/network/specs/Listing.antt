@@ -13,7 +13,7 @@ abbrev pub changes : Cells → ℕ → ℕ → Bool
 changes c v zero = true
 changes c v (suc t) = not (eqb (c (suc t) v) (c t v))
 
--- a record of the listing: tick, node, value
+-- a record of document 01's listing: tick, node, value; Ends has the end that it gets
 pub record Record : Type 0 where
   pub tick : ℕ
   pub node : ℕ

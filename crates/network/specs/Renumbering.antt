@@ -15,7 +15,8 @@ use Rattle.sheet.specs.Wiring.{moduleRule}
 use Rattle.sheet.specs.Layout.{sheetOf}
 use Rattle.sheet.specs.Refusal.{key}
 use Rattle.format.specs.Encode.{encode}
-use Rattle.network.specs.Listing.{Record, recordKey}
+use Rattle.network.specs.Listing.{Record}
+use Rattle.network.specs.Ends.{Ended, endedKey}
 
 -- a permutation of the numbers below n: each gets a number, no two the same, and back
 pub record Permutation (n : ℕ) : Type 0 where
@@ -67,9 +68,12 @@ renumbered S to from order =
 abbrev pub renumberedBytes : (e : Edition) (s : List ℕ) → Permutation (nodeCount (sheetOf e s)) → List ℕ → List ℕ
 renumberedBytes e s π order = encode e (renumbered (sheetOf e s) (π .to) (π .from) order)
 
--- a listing is renumbered by changing only its node numbers and sorting by tick, then by node
+-- a listing is renumbered by changing only its node numbers and sorting by tick, then by node; ends are carried along
 abbrev pub renumberedRecord : (ℕ → ℕ) → Record → Record
 renumberedRecord to r = record { tick = r .tick; node = to (r .node); value = r .value }
 
-abbrev pub renumberedListing : (ℕ → ℕ) → List Record → List Record
-renumberedListing to records = sort recordKey (map (renumberedRecord to) records)
+abbrev pub renumberedEnded : (ℕ → ℕ) → Ended → Ended
+renumberedEnded to r = record { start = renumberedRecord to (r .start); end = r .end }
+
+abbrev pub renumberedListing : (ℕ → ℕ) → List Ended → List Ended
+renumberedListing to records = sort endedKey (map (renumberedEnded to) records)

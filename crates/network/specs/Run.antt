@@ -16,7 +16,8 @@ use Rattle.sheet.specs.Layout.{sheetOf}
 use Rattle.sheet.specs.Refusal.{checked}
 use Rattle.network.specs.Timeline.{Cells}
 use Rattle.network.specs.Working.{worked}
-use Rattle.network.specs.Listing.{Record, listing, pending}
+use Rattle.network.specs.Listing.{listing, pending}
+use Rattle.network.specs.Ends.{Ended, endedListing}
 use Rattle.network.specs.Buffer.{room, bufferAfter}
 
 -- A refusal at a tick: its number, the tick, whether its condition is met, and the records that it leaves.
@@ -24,32 +25,33 @@ pub record TickRow : Type 0 where
   pub number : ℕ
   pub tick : ℕ
   pub met : Bool
-  pub left : List Record
+  pub left : List Ended
 
 -- 19 the buffer cannot take all records of this tick; then 20 more than 4,096 changes pending after it.
--- 19 leaves the records of all earlier ticks; 20 those and its own tick's.
+-- 19 leaves the records of all earlier ticks, and values that still last end at its tick; 20 those and its own tick's, and values end at the
+-- tick after.
 abbrev pub tickRows : Sheet → Cells → ℕ → ℕ → ℕ → List TickRow
 tickRows S c horizon bytes t =
-    record { number = 19; tick = t; met = ltb (room bytes) (length (listing S c (suc t))); left = listing S c t }
-    ∷ record { number = 20; tick = t; met = ltb pendingLimit (length (pending S c horizon t)); left = listing S c (suc t) }
+    record { number = 19; tick = t; met = ltb (room bytes) (length (listing S c (suc t))); left = endedListing S c t }
+    ∷ record { number = 20; tick = t; met = ltb pendingLimit (length (pending S c horizon t)); left = endedListing S c (suc t) }
     ∷ []
 
 -- what a run answers, and the records that it has written
 pub record Written : Type 0 where
   pub answer : Outcome
-  pub records : List Record
+  pub records : List Ended
 
-abbrev pub wrote : Outcome → List Record → Written
+abbrev pub wrote : Outcome → List Ended → Written
 wrote answer records = record { answer = answer; records = records }
 
 -- the first row that is met; without one, a finished run with the count of all records
-unfoldable pub firstTick : List TickRow → List Record → Written
+unfoldable pub firstTick : List TickRow → List Ended → Written
 firstTick [] all = wrote (finished (length all)) all
 firstTick (r ∷ rs) all = if r .met then wrote (refused (r .number) (r .tick) (length (r .left))) (r .left) else firstTick rs all
 
 -- what cells give for a horizon and a buffer of so many bytes
 unfoldable pub writtenOf : Sheet → Cells → ℕ → ℕ → Written
-writtenOf S c horizon bytes = firstTick (each horizon (tickRows S c horizon bytes)) (listing S c horizon)
+writtenOf S c horizon bytes = firstTick (each horizon (tickRows S c horizon bytes)) (endedListing S c horizon)
 
 -- the cells of a sheet: worked in its working order
 abbrev pub cellsOf : Sheet → ℕ → Cells

@@ -11,7 +11,8 @@ use Rattle.sheet.specs.Sheet.{Sheet}
 use Rattle.sheet.specs.Layout.{sheetOf}
 use Rattle.format.specs.Condition.{Condition, FirstCondition}
 use Rattle.network.specs.Timeline.{Cells}
-use Rattle.network.specs.Listing.{Record, listing, pending}
+use Rattle.network.specs.Listing.{listing, pending}
+use Rattle.network.specs.Ends.{Ended, endedListing}
 use Rattle.network.specs.Buffer.{room}
 use Rattle.network.specs.Run.{Written, wrote}
 
@@ -31,9 +32,9 @@ module _ (e : Edition) (s : List ℕ) (c : Cells) (horizon bytes : ℕ) where
   abbrev pub Passes : ℕ → Type 0
   Passes = Passed (sheetOf e s) c horizon bytes
 
-  -- the records of the ticks below a bound
-  abbrev pub listed : ℕ → List Record
-  listed = listing (sheetOf e s) c
+  -- the records of the ticks below a bound, with their ends
+  abbrev pub listed : ℕ → List Ended
+  listed = endedListing (sheetOf e s) c
 
   -- the first tick that does not pass
   pub record FirstNotPassed (t : ℕ) : Type 0 where
@@ -49,10 +50,10 @@ module _ (e : Edition) (s : List ℕ) (c : Cells) (horizon bytes : ℕ) where
     sheet-refused : {n p : ℕ} → 0 < horizon → horizon ≤ greatestHorizon → FirstCondition e s n p
         → RunCondition (wrote (refused n p 0) [])
     -- each tick, watched changes: 19 the buffer cannot take all records of this tick
-    no-room : (t : ℕ) → FirstNotPassed t → room bytes < length (listed (suc t))
+    no-room : (t : ℕ) → FirstNotPassed t → room bytes < length (listing (sheetOf e s) c (suc t))
         → RunCondition (wrote (refused 19 t (length (listed t))) (listed t))
     -- each tick, then: 20 more than 4,096 changes pending after it
-    crowded : (t : ℕ) → FirstNotPassed t → length (listed (suc t)) ≤ room bytes
+    crowded : (t : ℕ) → FirstNotPassed t → length (listing (sheetOf e s) c (suc t)) ≤ room bytes
         → pendingLimit < length (pending (sheetOf e s) c horizon t)
         → RunCondition (wrote (refused 20 t (length (listed (suc t)))) (listed (suc t)))
     -- no refusal: a finished run

@@ -5,6 +5,6 @@ use Rattle.network.specs.Buffer.{room}
 abbrev pub lentBytes : ℕ
 lentBytes = 60000
 
--- a first line of 32 bytes, and a line of 13 for each record that the listing takes; a refusal's one line is far shorter
+-- a first line of 31 bytes, and a line of 21 for each record that the listing takes; a refusal's one line is far shorter
 abbrev pub textBytes : ℕ
-textBytes = 32 + 13 * room lentBytes
+textBytes = 31 + 21 * room lentBytes

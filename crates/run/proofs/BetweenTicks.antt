@@ -1,20 +1,23 @@
 -- The ticks of a run, as its arrays have them: what is kept before a tick is the model's state, the listing holds the records of the ticks before, and all of these passed.
 -- The model's laws then tell the answer. Assumes nothing.
 use borrow.Author.Tests.{le-ltb}
-use mathlib.Core.List.{List, [], _++_}
+use mathlib.Core.List.{List, [], _++_, List·Memᴰ}
 use mathlib.Core.Path.{_≡_, refl, sym, ap, _∙_, subst}
 use Prim.Native.Nat.{ℕ, zero, suc, _+_, _*_, _<_, _≤_}
 use native.Mathlib.Decide.{ℕ-discrete}
 use native.Mathlib.Omega.{arith}
-use lib.ListN.{length, take, length-append, length-take}
+use lib.ListN.{length, take, replicate, length-append, length-take}
 use Rattle.sheet.specs.declared.Event.{Event}
-use Rattle.sheet.specs.Limits.{pendingLimit}
+use Rattle.sheet.specs.Limits.{pendingLimit, mostNodes}
 use Rattle.sheet.specs.Outcome.{Outcome, finished, refused}
 use Rattle.sheet.specs.Sheet.{Sheet, moduleCount}
 use Rattle.sheet.specs.WorkingOrder.{inWorkingOrder}
-use Rattle.network.specs.Listing.{Record}
+use Rattle.network.specs.Timeline.{Cells}
+use Rattle.network.specs.Listing.{Record, listing}
+use Rattle.network.specs.Ends.{endedListing}
 use Rattle.network.specs.Buffer.{room, bufferAfter}
-use Rattle.network.specs.Run.{wrote, ranSheet, Leaves}
+use Rattle.network.specs.Run.{wrote, cellsOf, ranSheet, Leaves}
+use Rattle.network.proofs.Listing.{listed-shown}
 use Rattle.model.specs.Change.{Change}
 use Rattle.model.specs.Drive.{eventIn, eventsBelow, nextEvent}
 use Rattle.model.specs.Fresh.{fresh}
@@ -23,7 +26,7 @@ use Rattle.model.specs.Ticks.{tickOf, stateAt, recordsBelow}
 use Rattle.model.proofs.Setting.{module-total}
 use Rattle.model.proofs.DelayedFirst.{delayed-at-most, delayed-listed}
 use Rattle.model.proofs.Stands.{stands}
-use Rattle.model.proofs.Ran.{Passes, setting, full, crowded, whole}
+use Rattle.model.proofs.Ran.{Passes, setting, so-far, full, crowded, whole}
 use Rattle.pending.proofs.Taking.{counts-first}
 use Rattle.pending.specs.Kept.{arrangement, keptIn, Sized}
 use Rattle.tick.specs.declared.Shape.{Shape}
@@ -33,14 +36,16 @@ use Rattle.tick.specs.Tick.{loadedIn, Workable, Worked}
 use Rattle.tick.proofs.Tables.{length-modules, length-drive}
 use Rattle.listing.specs.declared.Step.{Step}
 use Rattle.listing.specs.declared.Step.the-variants.{Next, Full, Crowded}
-use Rattle.listing.specs.Step.{NoRoom, RecordsWritten, StepOf}
-use Rattle.listing.proofs.Buffer.{buffer-none, buffer-more, buffer-length, fits-room}
+use Rattle.listing.specs.Ends.{withEnds, Holding}
+use Rattle.listing.specs.Step.{RecordsWritten, StepOf}
+use Rattle.listing.proofs.CellEnds.{cell-ends}
 use Rattle.listing.proofs.FreshLists.{fresh-few}
+use Rattle.listing.proofs.Holding.{nothing-yet, holding-length}
 use Rattle.load.proofs.Begun.{known-modules, driving}
 use Rattle.run.specs.Ready.{kept, Ready}
 
 -- before tick t: the arrays, the first event that is not before it, the changes pending and the records written
-pub record BetweenTicks (S : Sheet) (st : State arrangement) (horizon : ℕ) (buffer : List ℕ) (t next due n : ℕ) (values last shown store listing : List ℕ) : Type 0 where
+pub record BetweenTicks (S : Sheet) (st : State arrangement) (horizon : ℕ) (buffer : List ℕ) (t next due n : ℕ) (values last shown store listing places : List ℕ) : Type 0 where
   pub within : t ≤ horizon
   pub driven : next ≡ nextEvent (S .drive) t
   pub state : kept values last shown store due ≡ stateAt arrangement S horizon st t
@@ -49,10 +54,8 @@ pub record BetweenTicks (S : Sheet) (st : State arrangement) (horizon : ℕ) (bu
   pub last-levels : Levels last
   pub shown-size : length shown ≡ 256
   pub store-size : Sized store
-  pub counted : n ≡ length (recordsBelow arrangement S horizon st t)
+  pub holding : Holding buffer horizon (recordsBelow arrangement S horizon st t) n listing places
   pub bounded : n ≤ 256 * t
-  pub fits : n ≤ room (length buffer)
-  pub bytes : listing ≡ bufferAfter (recordsBelow arrangement S horizon st t) buffer
   pub passed : (u : ℕ) → u < t → Passes arrangement S horizon st (length buffer) u
 
 -- no event is before tick 0
@@ -62,11 +65,9 @@ none-before drive zero = refl
 none-before drive (suc n) = rw (← none-before drive n, le-ltb (eventIn drive n .tick) 0 (omega arith))
 
 -- the listing is as long as it was
-pub same-length-so-far : {S : Sheet} {st : State arrangement} {horizon : ℕ} {buffer : List ℕ} {t next due n : ℕ} {values last shown store now : List ℕ}
-    → BetweenTicks S st horizon buffer t next due n values last shown store now → length now ≡ length buffer
-same-length-so-far {S} {st} {horizon} {buffer} {t} G =
-    let below = recordsBelow arrangement S horizon st t in
-    ap length (G .bytes) ∙ buffer-length below buffer (fits-room (length below) (length buffer) .1 (rw (← G .counted) (G .fits)))
+pub same-length-so-far : {S : Sheet} {st : State arrangement} {horizon : ℕ} {buffer : List ℕ} {t next due n : ℕ} {values last shown store now places : List ℕ}
+    → BetweenTicks S st horizon buffer t next due n values last shown store now places → length now ≡ length buffer
+same-length-so-far G = holding-length (G .holding)
 
 same-state : {v v′ l l′ d d′ p p′ : List ℕ} → v ≡ v′ → l ≡ l′ → d ≡ d′ → p ≡ p′
     → _≡_ {A = State arrangement} (record { values = v; last = l; shown = d; pending = p }) (record { values = v′; last = l′; shown = d′; pending = p′ })
@@ -88,8 +89,18 @@ module _ {S : Sheet} {table delays times nodes levels watched : List ℕ} {st : 
   abbrev below : ℕ → List Record
   below = recordsBelow arrangement S horizon st
 
+  -- they are the listing's, of watched nodes
+  abbrev cells : Cells
+  cells = cellsOf S horizon
+
+  below-listed : (t : ℕ) → t ≤ horizon → below t ≡ listing S cells t
+  below-listed = so-far (R .accepted) horizon st (R .begun) 0
+
+  pub among-watched : (t : ℕ) → t ≤ horizon → (r : Record) → List·Memᴰ r (below t) → List·Memᴰ (r .node) (take total watched)
+  among-watched t h r m = rw (R .watched-there) (listed-shown S cells t r .0 (rw (below-listed t h) at m) .watched)
+
   pub start : (values last shown store : List ℕ) → st ≡ kept values last shown store 0 → Sized store → (buffer : List ℕ)
-      → BetweenTicks S st horizon buffer 0 0 0 0 values last shown store buffer
+      → BetweenTicks S st horizon buffer 0 0 0 0 values last shown store buffer (replicate mostNodes 0)
   unfolding stateAt recordsBelow
   start values last shown store e size buffer =
       let b = R .begun in
@@ -102,10 +113,8 @@ module _ {S : Sheet} {table delays times nodes levels watched : List ℕ} {st : 
         last-levels = rw (ap (λ x. x .last) (sym e)) (record { size = b .last-size; each = b .last-levels });
         shown-size = rw (ap (λ x. x .shown) (sym e)) (b .shown-size);
         store-size = size;
-        counted = refl;
+        holding = nothing-yet buffer horizon;
         bounded = omega arith;
-        fits = omega arith;
-        bytes = sym (buffer-none buffer);
         passed = λ u h. absurd (omega arith);
       }
 
@@ -114,10 +123,17 @@ module _ {S : Sheet} {table delays times nodes levels watched : List ℕ} {st : 
     abbrev pub Ended : Outcome → Type 0
     Ended o = Leaves (ranSheet S horizon (length buffer)) buffer o listing′
 
-    ended : (n t : ℕ) (o : ℕ → Outcome) → n ≡ length (below t) → listing′ ≡ bufferAfter (below t) buffer → ranSheet S horizon (length buffer) ≡ wrote (o (length (below t))) (below t) → Ended (o n)
-    ended n t o counted bytes e = record { answered = ap o counted ∙ sym (ap (λ w. w .answer) e); left = bytes ∙ ap (λ rs. bufferAfter rs buffer) (sym (ap (λ w. w .records) e)) }
+    -- its records are those below a bound, and what lasts ends there
+    ended : (n t : ℕ) (o : ℕ → Outcome) → t ≤ horizon → n ≡ length (below t) → listing′ ≡ bufferAfter (withEnds (λ v. t) (below t)) buffer
+        → ranSheet S horizon (length buffer) ≡ wrote (o (length (below t))) (endedListing S cells t) → Ended (o n)
+    ended n t o h counted bytes e =
+        record {
+          answered = ap o counted ∙ sym (ap (λ w. w .answer) e);
+          left = bytes ∙ ap (λ rs. bufferAfter rs buffer) (ap (withEnds (λ v. t)) (below-listed t h) ∙ cell-ends cells t S (R .accepted) ∙ sym (ap (λ w. w .records) e));
+        }
 
-  module _ {buffer : List ℕ} {t next due n : ℕ} {values last shown store now : List ℕ} (G : BetweenTicks S st horizon buffer t next due n values last shown store now) where
+  module _ {buffer : List ℕ} {t next due n : ℕ} {values last shown store now places : List ℕ}
+      (G : BetweenTicks S st horizon buffer t next due n values last shown store now places) where
     -- the count of records is a number of 32 bits
     pub few-records : n < 4294967296
     few-records = omega (arith, G .within, G .bounded, R .few-ticks)
@@ -186,32 +202,39 @@ module _ {S : Sheet} {table delays times nodes levels watched : List ℕ} {st : 
         pending-now : arrangement .count (stateAt arrangement S horizon st (suc t) .pending) ≡ after .pending
         pending-now = ap (arrangement .count) (sym pending-next) ∙ counts-first store′ (after .pending) (W .store-size) (W .few)
 
-        below-length : length (below (suc t)) ≡ n + length these
-        below-length = ap length below-next ∙ length-append (below t) these ∙ ap (λ k. k + length these) (sym (G .counted))
+        below-length : length (below (suc t)) ≡ length (below t) + length these
+        below-length = ap length below-next ∙ length-append (below t) these
 
         few-these : length these ≤ 256
         few-these = omega (arith, fresh-few values′ shown t (take total watched), length-take total watched, R .watched-size)
 
-        -- 19: no room for its records
-        no-room : {now′ shown′ : List ℕ} → NoRoom now n t (take total watched) values′ shown now′ shown′ → Ended buffer now′ (refused 19 t n)
-        no-room N =
-            ended buffer _ n t (refused 19 t) (G .counted) (N .untouched ∙ G .bytes)
-            (full (R .accepted) horizon st (R .begun) (length buffer) t h (G .passed) (rw below-length (rw (same-length-so-far G) at (N .over))))
+        -- by the step that the listing tells
+        abbrev Told : Step → List ℕ → List ℕ → List ℕ → Type 0
+        Told = StepOf buffer horizon (below t) t (take total watched) values′ shown (after .pending)
 
-        -- the records are written
-        module _ (fits : n + length these ≤ room (length now)) {count : ℕ} {now′ shown′ : List ℕ} (D : RecordsWritten now n t (take total watched) values′ shown count now′ shown′) where
-          fits-buffer : n + length these ≤ room (length buffer)
-          fits-buffer = rw (same-length-so-far G) at fits
+        -- 19: no room for its records, and what lasts ends at this tick
+        pub told-full : {x : Step} (now′ shown′ places′ : List ℕ) → x ≡ Full → Told x now′ shown′ places′ → Ended buffer now′ (refused 19 t n)
+        told-full now′ shown′ places′ e l =
+            let (over, left) = subst (λ x. Told x now′ shown′ places′) e l in
+            ended buffer now′ n t (refused 19 t) (G .within) (G .holding .counted) (left .bytes)
+            (full (R .accepted) horizon st (R .begun) (length buffer) t h (G .passed) (rw below-length over))
 
-          all-counted : count ≡ length (below (suc t))
-          all-counted = D .counted ∙ sym below-length
+        -- 20: too many changes pending, and what lasts ends at the tick after
+        pub told-crowded : {x : Step} {count : ℕ} (now′ shown′ places′ : List ℕ) → x ≡ Crowded count → Told x now′ shown′ places′ → Ended buffer now′ (refused 20 t count)
+        told-crowded {count = count} now′ shown′ places′ e l =
+            let (fits, over, left) = subst (λ x. Told x now′ shown′ places′) e l in
+            ended buffer now′ count (suc t) (refused 20 t) h (rw below-next (left .counted)) (rw below-next (left .bytes))
+            (crowded (R .accepted) horizon st (R .begun) (length buffer) t h (G .passed) (rw below-length fits) (rw pending-now over))
 
-          all-written : now′ ≡ bufferAfter (below (suc t)) buffer
-          all-written =
-              D .bytes
-              ∙ rw (G .counted) (buffer-more (below t) these buffer now (fits-room (length (below t) + length these) (length buffer) .1 (rw (← G .counted) fits-buffer)) (G .bytes))
-              ∙ ap (λ rs. bufferAfter rs buffer) (sym below-next)
+        -- a count that 20 leaves is a number of 32 bits
+        pub few-left : {x : Step} {count : ℕ} (now′ shown′ places′ : List ℕ) → x ≡ Crowded count → Told x now′ shown′ places′ → count < 4294967296
+        few-left now′ shown′ places′ e l =
+            let (fits, over, left) = subst (λ x. Told x now′ shown′ places′) e l in
+            omega (arith, left .counted, length-append (below t) these, G .holding .counted, G .bounded, R .few-ticks, few-these)
 
+        -- on to the next tick: the records are written
+        module _ (fits : length (below t) + length these ≤ room (length buffer)) (few : after .pending ≤ pendingLimit) {count : ℕ} {now′ shown′ places′ : List ℕ}
+            (D : RecordsWritten buffer horizon (below t) these values′ shown (take total watched) count now′ shown′ places′) where
           shown-next : shown′ ≡ tickOf arrangement S horizon t start-of-tick .state .shown
           shown-next = D .now-shown ∙ rw (R .watched-there, worked .values-worked)
 
@@ -221,15 +244,8 @@ module _ {S : Sheet} {table delays times nodes levels watched : List ℕ} {st : 
               same-state (worked .values-worked) (worked .last-worked) shown-next (worked .pending-worked)
               ∙ ap (λ x. tickOf arrangement S horizon t x .state) (G .state)
 
-          -- 20: too many changes pending
-          too-many : pendingLimit < after .pending → Ended buffer now′ (refused 20 t count)
-          too-many over =
-              ended buffer now′ count (suc t) (refused 20 t) all-counted all-written
-              (crowded (R .accepted) horizon st (R .begun) (length buffer) t h (G .passed) (rw below-length fits-buffer) (rw pending-now over))
-
-          -- on to the next tick
-          next-tick : after .pending ≤ pendingLimit → BetweenTicks S st horizon buffer (suc t) (after .next) (after .pending) count values′ last′ shown′ store′ now′
-          next-tick few =
+          next-tick : BetweenTicks S st horizon buffer (suc t) (after .next) (after .pending) count values′ last′ shown′ store′ now′ places′
+          next-tick =
               record {
                 within = h;
                 driven = worked .next;
@@ -239,47 +255,26 @@ module _ {S : Sheet} {table delays times nodes levels watched : List ℕ} {st : 
                 last-levels = W .last-levels;
                 shown-size = D .shown-size;
                 store-size = W .store-size;
-                counted = all-counted;
-                bounded = omega (arith, D .counted, G .bounded, few-these);
-                fits = rw (D .counted) fits-buffer;
-                bytes = all-written;
+                holding = rw below-next (D .holding);
+                bounded = omega (arith, D .holding .counted, length-append (below t) these, G .holding .counted, G .bounded, few-these);
                 passed = λ u. here u (ℕ-discrete u t);
               }
             where
               here : (u : ℕ) → Dec (u ≡ t) → u < suc t → Passes arrangement S horizon st (length buffer) u
-              here u (yes e) l = rw e (record { room-left = rw below-length fits-buffer; few-pending = rw pending-now few })
+              here u (yes e) l = rw e (record { room-left = rw below-length fits; few-pending = rw pending-now few })
               here u (no d) l = G .passed u (omega arith)
 
-        -- by the step that the listing tells
-        abbrev Told : Step → List ℕ → List ℕ → Type 0
-        Told = StepOf now n t (take total watched) values′ shown (after .pending)
-
-        pub told-full : {x : Step} (now′ shown′ : List ℕ) → x ≡ Full → Told x now′ shown′ → Ended buffer now′ (refused 19 t n)
-        told-full now′ shown′ e l = no-room (subst (λ x. Told x now′ shown′) e l)
-
-        pub told-crowded : {x : Step} {count : ℕ} (now′ shown′ : List ℕ) → x ≡ Crowded count → Told x now′ shown′ → Ended buffer now′ (refused 20 t count)
-        told-crowded now′ shown′ e l =
-            let told = subst (λ x. Told x now′ shown′) e l in
-            too-many (told .0) (told .2) (told .1)
-
-        pub told-next : {x : Step} {count : ℕ} (now′ shown′ : List ℕ) → x ≡ Next count → Told x now′ shown′
-            → BetweenTicks S st horizon buffer (suc t) (after .next) (after .pending) count values′ last′ shown′ store′ now′
-        told-next now′ shown′ e l =
-            let told = subst (λ x. Told x now′ shown′) e l in
-            next-tick (told .0) (told .2) (told .1)
-
-        -- a count that 20 leaves is a number of 32 bits
-        pub few-left : {x : Step} {count : ℕ} (now′ shown′ : List ℕ) → x ≡ Crowded count → Told x now′ shown′ → count < 4294967296
-        few-left now′ shown′ e l =
-            let told = subst (λ x. Told x now′ shown′) e l in
-            let d = told .2 .counted in
-            omega (arith, d, G .bounded, R .few-ticks, few-these)
+        pub told-next : {x : Step} {count : ℕ} (now′ shown′ places′ : List ℕ) → x ≡ Next count → Told x now′ shown′ places′
+            → BetweenTicks S st horizon buffer (suc t) (after .next) (after .pending) count values′ last′ shown′ store′ now′ places′
+        told-next now′ shown′ places′ e l =
+            let (fits, few, done) = subst (λ x. Told x now′ shown′ places′) e l in
+            next-tick fits few done
 
     -- the horizon is reached
     pub reached : horizon ≤ t → Ended buffer now (finished n)
     reached past =
-        ended buffer now n t finished (G .counted) (G .bytes)
-        (subst (λ k. ranSheet S horizon (length buffer) ≡ wrote (finished (length (below k))) (below k)) all
+        ended buffer now n t finished (G .within) (G .holding .counted) (G .holding .bytes ∙ ap (λ k. bufferAfter (withEnds (λ v. k) (below t)) buffer) all)
+        (subst (λ k. ranSheet S horizon (length buffer) ≡ wrote (finished (length (below k))) (endedListing S cells k)) all
         (whole (R .accepted) horizon st (R .begun) (length buffer) (λ u l. G .passed u (omega arith))))
       where
         all : horizon ≡ t

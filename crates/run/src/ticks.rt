@@ -52,6 +52,7 @@ pub(crate) fn ticks(
     let mut next: u16 = 0;
     let mut due: usize = 0;
     let mut n: usize = 0;
+    let mut places = [0usize; NODES];
     while t < horizon {
         let before = Carried { next, pending: due };
         let after = work(
@@ -71,7 +72,18 @@ pub(crate) fn ticks(
         );
         next = after.next;
         due = after.pending;
-        let step = list(listing, n, t, watched, count, &*values, shown, due);
+        let step = list(
+            listing,
+            n,
+            t,
+            horizon,
+            watched,
+            count,
+            &*values,
+            shown,
+            &mut places,
+            due,
+        );
         match step {
             Step::Full => {
                 return Answer::Refused(19, t, n as u32);

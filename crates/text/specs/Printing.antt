@@ -1,10 +1,10 @@
--- Document 01, "The program and one complete run", with document 02's W-201: what is printed of an answer and the listing's bytes.
+-- Document 01, "The program and one complete run", with document 02's W-201 and W-204: what is printed of an answer and the listing's bytes.
 use mathlib.Core.List.{List, [], _∷_, _++_}
 use Prim.Native.Nat.{ℕ, _*_}
 use Rattle.level.specs.Level.{printed}
 use Rattle.sheet.specs.Enumerate.{each}
 use Rattle.sheet.specs.Outcome.{Outcome, finished, refused}
-use Rattle.network.specs.Listing.{Record}
+use Rattle.network.specs.Ends.{Ended}
 use Rattle.network.specs.Buffer.{recordSize, recordIn}
 use Rattle.lent.specs.Decimal.{decimal}
 use Rattle.sentence.specs.Sentence.{sentence}
@@ -15,12 +15,16 @@ blank = 32
 abbrev pub newline : ℕ
 newline = 10
 
--- tick, node, value: the first two in decimal and the value as 0, 1, X or Z
-abbrev pub recordLine : Record → List ℕ
-recordLine r = decimal (r .tick) ++ blank ∷ decimal (r .node) ++ blank ∷ printed (r .value) ∷ newline ∷ []
+-- tick, node, value, end: numbers in decimal and the value as 0, 1, X or Z
+abbrev pub recordLine : Ended → List ℕ
+recordLine r =
+    decimal (r .start .tick)
+    ++ blank ∷ decimal (r .start .node)
+    ++ blank ∷ printed (r .start .value) ∷ blank ∷ decimal (r .end)
+    ++ newline ∷ []
 
 -- the record of a number in the listing
-abbrev pub listedRecord : List ℕ → ℕ → Record
+abbrev pub listedRecord : List ℕ → ℕ → Ended
 listedRecord listing i = recordIn listing (recordSize * i)
 
 -- a line per record, of as many as are counted

@@ -29,7 +29,7 @@ fn put_field(text: &mut [u8], at: usize, n: u32) -> usize
     put_decimal(text, first, n)
 }
 
-// Puts the line of record number i of the listing: tick, node, value.
+// Puts the line of record number i of the listing: tick, node, value, end.
 fn put_record(text: &mut [u8], at: usize, listing: &[u8], i: u32) -> usize
     ensures { λ r. ⌜ Prints (recordLine (listedRecord (now (listing .entry)) i)) (now (text .entry)) at (now (text .exit)) r ⌝ }
 {
@@ -39,8 +39,9 @@ fn put_record(text: &mut [u8], at: usize, listing: &[u8], i: u32) -> usize
     let value = value_byte(record.value);
     let second = put_decimal(text, at, tick);
     let third = put_field(text, second, node);
-    let last = put(text, third, b' ');
-    let end = put(text, last, value);
+    let fourth = put(text, third, b' ');
+    let last = put(text, fourth, value);
+    let end = put_field(text, last, record.end);
     put(text, end, b'\n')
 }
 

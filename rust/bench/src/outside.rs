@@ -6,7 +6,8 @@ use std::path::PathBuf;
 use std::process::{self, Command};
 use std::time::Instant;
 
-use generate::sheets::Record;
+use generate::ends::ended;
+use generate::sheets::{Change, Record};
 use plain::{Sheet, HIGH, LOW, NONE, UNKNOWN};
 
 use crate::timed::Timed;
@@ -94,10 +95,16 @@ impl Simulator {
         })
     }
 
-    /// The records that the printed lines give: a time and a character for each watched node.
-    /// Other lines are the simulator's own.
-    fn records(&self, sheet: &Sheet, horizon: u32, printed: &str) -> Vec<Record> {
-        let mut records = Vec::new();
+    /// The records that the printed lines give. A simulator that is not ours prints no ends: they are
+    /// those that its changes have.
+    pub fn records(&self, sheet: &Sheet, horizon: u32, printed: &str) -> Vec<Record> {
+        ended(&self.changes(sheet, horizon, printed), horizon)
+    }
+
+    /// The changes in the printed lines: a time and a character for each watched node. Other lines are
+    /// the simulator's own.
+    fn changes(&self, sheet: &Sheet, horizon: u32, printed: &str) -> Vec<Change> {
+        let mut changes = Vec::new();
         let mut before = vec![None; sheet.watched.len()];
         for (time, values) in printed.lines().filter_map(time_and_values) {
             let tick = time - self.tick_0;
@@ -107,11 +114,11 @@ impl Simulator {
             let nodes = sheet.watched.iter().zip(&mut before);
             for ((&node, before), value) in nodes.zip(values.chars()) {
                 if before.replace(value) != Some(value) {
-                    records.push((tick, node, level(value)));
+                    changes.push((tick, node, level(value)));
                 }
             }
         }
-        records
+        changes
     }
 }
 

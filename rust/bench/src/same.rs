@@ -5,7 +5,9 @@
 //! the changes due, the modules of delay zero in working order, the delayed modules, whose new
 //! results are scheduled, the count of the records, the records, and the values now shown. The
 //! arrays are its arrays: 8 bytes a module in working order, the delays, the laid-out rules, the
-//! values, what each module came to last, and one flat list of pending changes, each in 32 bits.
+//! values, what each module came to last, one flat list of pending changes, each in 32 bits, and where
+//! each node's last record stands. A record is written with the horizon as its end, which the node's
+//! next record, or a refusal of the tick, puts right.
 //!
 //! Both sides are compiled by LLVM at -O3 for the x86-64 that all machines have, each as one
 //! module: the library so by its own tool, this side by the workspace's release profile (fat LTO,
@@ -38,22 +40,23 @@ pub fn run(sheet: &[u8], horizon: u32, listing: &mut [u8]) -> [u32; 3] {
 
 /// The ticks in turn, until one is refused or the horizon is reached.
 fn ticks(sheet: &Sheet, horizon: u32, listing: &mut [u8]) -> [u32; 3] {
-    let room = listing.len() / RECORD_BYTES;
+    let (records, _) = listing.as_chunks_mut::<RECORD_BYTES>();
     let mut written = 0;
     let mut state = Tick::new(sheet, horizon);
     for tick in 0..horizon {
         let pending = state.work(tick);
         let fresh = state.count_fresh();
-        if room < written + fresh {
+        if records.len() < written + fresh {
+            state.end_all(tick, records);
             return [19, tick, written as u32];
         }
         if fresh > 0 {
-            let records = RECORD_BYTES * written..RECORD_BYTES * (written + fresh);
-            state.write_fresh(tick, &mut listing[records]);
+            state.write_fresh(tick, written, records);
             state.show_all();
             written += fresh;
         }
         if pending > MOST_PENDING {
+            state.end_all(tick + 1, records);
             return [20, tick, written as u32];
         }
     }

@@ -65,7 +65,7 @@ fn sparse() -> Sheet {
     };
     let modules: Vec<_> = (1..=length).map(buffer).collect();
     let level = |place: u32| if place.is_multiple_of(2) { LOW } else { HIGH };
-    let drive: Vec<Record> = (0..50)
+    let drive: Vec<Change> = (0..50)
         .map(|place| (20_000 * place, 0, level(place)))
         .collect();
     let mut nodes = vec![LOW; modules.len()];

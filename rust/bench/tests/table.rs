@@ -27,10 +27,11 @@ fn a_line_for_a_workload() {
 
 #[test]
 fn another_listing_is_not_believed() {
-    let timed = |value| Timed {
-        records: vec![(0, 0, value)],
+    let timed = |value, end| Timed {
+        records: vec![(0, 0, value, end)],
         seconds: 2.0,
     };
-    assert_eq!(believed(&timed(1), &timed(1)), Some(2.0));
-    assert_eq!(believed(&timed(0), &timed(1)), None);
+    assert_eq!(believed(&timed(1, 9), &timed(1, 9)), Some(2.0));
+    assert_eq!(believed(&timed(0, 9), &timed(1, 9)), None);
+    assert_eq!(believed(&timed(1, 8), &timed(1, 9)), None);
 }

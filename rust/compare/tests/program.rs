@@ -4,7 +4,7 @@ use std::io::{ErrorKind, Write};
 use std::process::{Command, Stdio};
 
 use compare::{hex, program, seed};
-use generate::limits::RECORD_BYTES;
+use generate::limits::{LAST_HORIZON, MOST_PRINTED};
 use generate::sheets::*;
 use generate::Generator;
 use plain::{sentence, worked_run, Answer, HIGH, INPUT, LOW};
@@ -97,11 +97,11 @@ fn bytes_past_the_longest_sheet() {
     }
 }
 
-/// An inverter onto its own input fills the lent 60,000 bytes at horizon 10,000.
+/// An inverter onto its own input has a record at each tick.
 #[test]
 fn the_lent_room() {
     let ring = sheet(&[LOW], &[gate(INVERTER, [0, 0], 0, 1)], &[], &[0]).encode();
-    for (horizon, word) in [(10_000, "finished"), (10_001, "refused")] {
+    for (horizon, word) in [(MOST_PRINTED, "finished"), (MOST_PRINTED + 1, "refused")] {
         assert_eq!(agreed(&input(horizon, &ring), "the lent room"), word);
     }
 }
@@ -111,28 +111,26 @@ fn the_lent_room() {
 fn late_oscillator(high_from: u32) -> Vec<u8> {
     let mut nodes = vec![INPUT; 100];
     nodes.push(HIGH);
-    let mut drive: Vec<Record> = (0..100).map(|node| (0, node, LOW)).collect();
+    let mut drive: Vec<Change> = (0..100).map(|node| (0, node, LOW)).collect();
     drive.push((high_from, 0, HIGH));
     sheet(&nodes, &[gate(NAND, [0, 100], 100, 1)], &drive, &[100]).encode()
 }
 
-/// All 10,000 records that the lent room takes, the ticks of all but the first with six digits and
-/// the node with three: no run prints more.
+/// All 6,000 records that the lent room takes, up to the last horizon: the node has three digits, every
+/// tick but the first has six and so has every end but the last, which has seven. No run prints more.
 #[test]
 fn the_longest_text() {
-    let (sheet, horizon) = (late_oscillator(99_999), 109_999);
-    let mut listing = vec![0; 10_000 * RECORD_BYTES];
-    let answer = plain::run(&sheet, horizon, &mut listing).triple();
-    assert_eq!(answer, [0, 0, 10_000]);
-    let mut expected = String::from("finished, with a count of 10000\n");
-    for (tick, node, value) in records(&listing) {
-        expected += &format!("{tick} {node} {value}\n");
+    let first_change = LAST_HORIZON - (MOST_PRINTED - 1);
+    let mut expected = format!("finished, with a count of 6000\n0 100 1 {first_change}\n");
+    let values = [0, 1].into_iter().cycle();
+    for (tick, value) in (first_change..LAST_HORIZON).zip(values) {
+        expected += &format!("{tick} 100 {value} {}\n", tick + 1);
     }
-    assert_eq!(expected.len(), 32 + 8 + 9_999 * 13);
-    let text = printed(&input(horizon, &sheet));
-    assert_eq!(text.len(), expected.len());
-    assert!(text == expected.as_bytes(), "a line differs");
-    // One tick more has one record more, which finds no room.
-    let one_more = printed(&input(horizon + 1, &sheet));
-    assert_eq!(one_more, refused([19, 109_999, 10_000]));
+    assert_eq!(expected.len(), 31 + 15 + 5_998 * 20 + 21);
+    let longest = input(LAST_HORIZON, &late_oscillator(first_change - 1));
+    assert_eq!(agreed(&longest, "the longest text"), "finished");
+    assert!(printed(&longest) == expected.as_bytes(), "a line differs");
+    // A tick earlier there is one record more, which finds no room.
+    let one_more = input(LAST_HORIZON, &late_oscillator(first_change - 2));
+    assert_eq!(printed(&one_more), refused([19, 999_999, 6_000]));
 }

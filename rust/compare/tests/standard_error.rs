@@ -7,6 +7,7 @@ use std::path::Path;
 use std::process::{Command, Stdio};
 
 use compare::program;
+use generate::limits::MOST_PRINTED;
 use generate::sheets::*;
 use plain::{sentence, worked_run, Answer, LOW};
 
@@ -48,16 +49,20 @@ fn no_horizon() -> Vec<u8> {
 
 const AS_IT_IS: &str = r#"exec "$0""#;
 
-/// An inverter onto its own input to horizon 10,000: a text that no pipe takes at once.
+/// What a pipe takes at once.
+const PIPE: usize = 65_536;
+
+/// An inverter onto its own input, to as many ticks as are printed: a text that no pipe takes at once.
 fn long_run() -> Vec<u8> {
     let ring = sheet(&[LOW], &[gate(INVERTER, [0, 0], 0, 1)], &[], &[0]).encode();
-    [&10_000u32.to_le_bytes()[..], &ring].concat()
+    [&MOST_PRINTED.to_le_bytes()[..], &ring].concat()
 }
 
 #[test]
 fn an_ordinary_run_says_nothing() {
     let refused = &worked_run::INPUT[..20];
     let one_byte = &worked_run::INPUT[..1];
+    assert!(plain::program(&long_run()).len() > PIPE);
     for input in [&worked_run::INPUT[..], refused, one_byte, &long_run()] {
         let said = said(AS_IT_IS, input, Stdio::piped());
         assert_eq!(said.error, "");

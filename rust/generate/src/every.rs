@@ -2,7 +2,7 @@
 
 use plain::{Sheet, INPUT, UNKNOWN};
 
-use crate::sheets::{gate, sheet, Record, BUFFER, CLOCKED_INVERTER, INVERTER};
+use crate::sheets::{gate, sheet, Change, BUFFER, CLOCKED_INVERTER, INVERTER};
 
 /// Every way to end the bytes too early: none of them, the first one, and so on.
 pub fn truncations(bytes: &[u8]) -> impl Iterator<Item = &[u8]> {
@@ -34,7 +34,7 @@ pub fn gates(delay: u16) -> Sheet {
     };
     let modules: Vec<_> = kinds.map(module).collect();
     let events = |tick: u32| [(tick, 0, (tick / 4) as u8), (tick, 1, (tick % 4) as u8)];
-    let drive: Vec<Record> = (0..PAIRS).flat_map(events).collect();
+    let drive: Vec<Change> = (0..PAIRS).flat_map(events).collect();
     let mut nodes = vec![INPUT; 2];
     nodes.resize(2 + modules.len(), UNKNOWN);
     let watched: Vec<u8> = (0..=CLOCKED_INVERTER + 1).collect();

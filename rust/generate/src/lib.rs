@@ -10,6 +10,8 @@ mod answer;
 pub mod by_hand;
 mod bytes;
 mod crowded;
+pub mod ends;
+pub mod ends_by_hand;
 pub mod every;
 mod fault;
 mod gates;

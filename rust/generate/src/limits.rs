@@ -1,4 +1,4 @@
-//! Document 01's limits that generated runs meet, and the size of a record.
+//! Document 01's limits that generated runs meet, the size of a record, and how many are printed.
 
 /// The last horizon that runs.
 pub const LAST_HORIZON: u32 = 1_000_000;
@@ -13,4 +13,7 @@ pub const MOST_EVENTS: usize = 1_024;
 pub const MOST_PENDING: usize = 4_096;
 
 /// The bytes of a record in a listing.
-pub const RECORD_BYTES: usize = 6;
+pub const RECORD_BYTES: usize = 10;
+
+/// The most records that the program prints: those that the 60,000 bytes it lends take.
+pub const MOST_PRINTED: u32 = 6_000;

@@ -15,8 +15,11 @@ pub const NOR: u8 = 7;
 pub const CLOCKED_INVERTER: u8 = 8;
 pub const MEMORY: u8 = 9;
 
-/// Tick, node and value.
-pub type Record = (u32, u8, u8);
+/// Tick, node and value: an event of a drive, or a change.
+pub type Change = (u32, u8, u8);
+
+/// Tick, node, value and end: a record of a listing.
+pub type Record = (u32, u8, u8, u32);
 
 /// A gate from its inputs to its output. An input that the kind lacks is 0.
 pub fn gate(kind: u8, [first, second]: [u8; 2], output: u8, delay: u16) -> Module {
@@ -48,8 +51,8 @@ pub fn event(tick: u32, node: u8, value: u8) -> Event {
     Event { tick, node, value }
 }
 
-pub fn sheet(nodes: &[u8], modules: &[Module], drive: &[Record], watched: &[u8]) -> Sheet {
-    let event = |&(tick, node, value): &Record| event(tick, node, value);
+pub fn sheet(nodes: &[u8], modules: &[Module], drive: &[Change], watched: &[u8]) -> Sheet {
+    let event = |&(tick, node, value): &Change| event(tick, node, value);
     Sheet {
         nodes: nodes.to_vec(),
         modules: modules.to_vec(),
@@ -62,8 +65,9 @@ pub fn sheet(nodes: &[u8], modules: &[Module], drive: &[Record], watched: &[u8])
 pub fn records(listing: &[u8]) -> Vec<Record> {
     let (records, rest) = listing.as_chunks();
     assert!(rest.is_empty(), "a listing is made of whole records");
-    let record = |&[b0, b1, b2, b3, node, value]: &[u8; RECORD_BYTES]| {
-        (u32::from_le_bytes([b0, b1, b2, b3]), node, value)
+    let record = |&[t0, t1, t2, t3, node, value, e0, e1, e2, e3]: &[u8; RECORD_BYTES]| {
+        let [tick, end] = [[t0, t1, t2, t3], [e0, e1, e2, e3]].map(u32::from_le_bytes);
+        (tick, node, value, end)
     };
     records.iter().map(record).collect()
 }

@@ -1,5 +1,6 @@
 //! The plain simulator held against document 01's statements, over many valid sheets.
 
+use generate::ends::before;
 use generate::limits::RECORD_BYTES;
 use generate::sheets::{records, MEMORY};
 use generate::{Generator, Size};
@@ -112,14 +113,14 @@ fn the_listing_gives_the_watched_cells_back() {
         let records = records(&full_listing(sheet, horizon));
         let keys: Vec<(u32, u8)> = records
             .iter()
-            .map(|&(tick, node, _)| (tick, node))
+            .map(|&(tick, node, ..)| (tick, node))
             .collect();
         assert!(keys.is_sorted_by(|one, next| one < next), "{sheet:?}");
         for &node in &sheet.watched {
             let mut own = records.iter().filter(|record| record.1 == node).peekable();
             let mut value = None;
             for (tick, &cell) in (0..).zip(&cells[usize::from(node)]) {
-                if let Some(&(_, _, new)) = own.next_if(|record| record.0 == tick) {
+                if let Some(&(_, _, new, _)) = own.next_if(|record| record.0 == tick) {
                     assert_ne!(value, Some(new), "no change at {tick}: {sheet:?}");
                     value = Some(new);
                 }
@@ -142,17 +143,17 @@ fn a_short_buffer_takes_whole_ticks() {
         let (answer, left) = run(sheet, horizon, length);
         let all = records(&listing);
         // The first record without room names the tick; that tick's records are left out.
-        let expected = match all.get(length / RECORD_BYTES) {
-            None => [0, 0, all.len() as u32],
+        let (number, place, expected) = match all.get(length / RECORD_BYTES) {
+            None => (0, 0, all),
             Some(&(tick, ..)) => {
                 refused += 1;
-                let earlier = all.iter().filter(|record| record.0 < tick).count();
-                [19, tick, earlier as u32]
+                (19, tick, before(tick, &all))
             }
         };
-        assert_eq!(answer, expected, "{length} bytes: {sheet:?}");
-        let (written, rest) = left.split_at(RECORD_BYTES * answer[2] as usize);
-        assert_eq!(written, &listing[..written.len()]);
+        let count = expected.len() as u32;
+        assert_eq!(answer, [number, place, count], "{length} bytes: {sheet:?}");
+        let (written, rest) = left.split_at(RECORD_BYTES * expected.len());
+        assert_eq!(records(written), expected, "{length} bytes: {sheet:?}");
         assert!(rest.iter().all(|&byte| byte == UNTOUCHED));
     });
     assert!(refused >= 100, "{refused} were refused");

@@ -15,6 +15,7 @@ mod pending;
 mod program;
 mod read;
 mod reader;
+mod record;
 mod renumber;
 mod sentence;
 mod sheet;

@@ -4,7 +4,8 @@ use crate::answer::Answer;
 use crate::cells::cells;
 use crate::pending::pending;
 use crate::read::read;
-use crate::sheet::{Event, Sheet};
+use crate::record::Record;
+use crate::sheet::Sheet;
 
 /// Runs the sheet to the horizon and writes its records to the front of `listing`.
 pub fn run(sheet: &[u8], horizon: u32, listing: &mut [u8]) -> Answer {
@@ -17,47 +18,94 @@ pub fn run(sheet: &[u8], horizon: u32, listing: &mut [u8]) -> Answer {
     }
 }
 
+/// Nothing is written before it is known which ticks are listed, for no end lies past them.
 fn list(sheet: &Sheet, horizon: u32, listing: &mut [u8]) -> Answer {
     let cells = cells(sheet, horizon);
-    let pending = pending(sheet, &cells);
-    let capacity = listing.len() / Event::BYTES;
-    let mut places = listing.chunks_exact_mut(Event::BYTES);
+    let answer = answer(sheet, &cells, listing.len() / Record::BYTES);
+    let bound = bound(answer, horizon);
+    let records = (0..bound).flat_map(|tick| records_at(sheet, &cells, tick, bound));
+    let mut places = listing.chunks_exact_mut(Record::BYTES);
+    for record in records {
+        let place = places.next().expect("every listed tick found room");
+        place.copy_from_slice(&record.to_bytes());
+    }
+    answer
+}
+
+/// What a run answers whose buffer has room for so many records.
+fn answer(sheet: &Sheet, cells: &[Vec<u8>], room: usize) -> Answer {
     let mut count = 0;
-    for (tick, &pending) in (0..horizon).zip(&pending) {
-        let records = records_at(sheet, &cells, tick);
-        if count as usize + records.len() > capacity {
+    for (tick, pending) in (0..).zip(pending(sheet, cells)) {
+        let records = listed_at(sheet, cells, tick).count();
+        if count + records > room {
             return refused(19, tick, count);
         }
-        for (record, place) in records.iter().zip(&mut places) {
-            place.copy_from_slice(&record.to_bytes());
-            count += 1;
-        }
+        count += records;
         if pending > 4_096 {
             return refused(20, tick, count);
         }
     }
-    Answer::Ran { count }
+    Answer::Ran { count: word(count) }
 }
 
-/// The records of one tick: at tick 0 one for each watched node, later one where its cell differs
-/// from the cell before. The watched nodes rise, so the records do.
-fn records_at(sheet: &Sheet, cells: &[Vec<u8>], tick: u32) -> Vec<Event> {
-    let mut records = Vec::new();
-    let t = tick as usize;
-    for &node in &sheet.watched {
-        let timeline = &cells[usize::from(node)];
-        if t == 0 || timeline[t] != timeline[t - 1] {
-            let value = timeline[t];
-            records.push(Event { tick, node, value });
-        }
+/// The ticks below it are listed, and a value that still lasts ends at it: the horizon, the tick
+/// refused by 19, or the tick after the one refused by 20, which is itself listed.
+fn bound(answer: Answer, horizon: u32) -> u32 {
+    match answer {
+        Answer::Refused {
+            number: 19, place, ..
+        } => place,
+        Answer::Refused {
+            number: 20, place, ..
+        } => place + 1,
+        _ => horizon,
     }
-    records
 }
 
-fn refused(number: u32, place: u32, count: u32) -> Answer {
+/// The watched nodes that have a record at the tick: at tick 0 all of them.
+fn listed_at<'a>(
+    sheet: &'a Sheet,
+    cells: &'a [Vec<u8>],
+    tick: u32,
+) -> impl Iterator<Item = u8> + 'a {
+    let watched = sheet.watched.iter().copied();
+    watched.filter(move |&node| tick == 0 || changes_at(&cells[usize::from(node)], tick))
+}
+
+/// The records of one tick. The watched nodes rise, so the records do.
+fn records_at(sheet: &Sheet, cells: &[Vec<u8>], tick: u32, bound: u32) -> Vec<Record> {
+    let record = |node: u8| {
+        let timeline = &cells[usize::from(node)];
+        Record {
+            tick,
+            node,
+            value: timeline[tick as usize],
+            end: end(timeline, tick, bound),
+        }
+    };
+    listed_at(sheet, cells, tick).map(record).collect()
+}
+
+/// The tick of the next change below the bound, or the bound if there is none.
+fn end(timeline: &[u8], tick: u32, bound: u32) -> u32 {
+    let mut later = tick + 1..bound;
+    later.find(|&t| changes_at(timeline, t)).unwrap_or(bound)
+}
+
+/// Whether the cell of a tick above 0 differs from the cell before.
+fn changes_at(timeline: &[u8], tick: u32) -> bool {
+    let t = tick as usize;
+    timeline[t] != timeline[t - 1]
+}
+
+fn refused(number: u32, place: u32, count: usize) -> Answer {
     Answer::Refused {
         number,
         place,
-        count,
+        count: word(count),
     }
+}
+
+fn word(count: usize) -> u32 {
+    u32::try_from(count).expect("256 nodes at 1,000,000 ticks are fewer")
 }

@@ -3,8 +3,8 @@
 use crate::answer::Answer;
 use crate::level::symbol;
 use crate::listing::run;
+use crate::record::Record;
 use crate::sentence::sentence;
-use crate::sheet::Event;
 
 /// The bytes that the program lends for the listing.
 const LENT: usize = 60_000;
@@ -37,8 +37,13 @@ fn records(listing: &[u8], count: u32) -> String {
     let mut printed = String::new();
     let (records, _) = listing.as_chunks();
     for &record in &records[..count as usize] {
-        let Event { tick, node, value } = Event::from_bytes(record);
-        printed += &format!("{tick} {node} {}\n", symbol(value));
+        let Record {
+            tick,
+            node,
+            value,
+            end,
+        } = Record::from_bytes(record);
+        printed += &format!("{tick} {node} {} {end}\n", symbol(value));
     }
     printed
 }

@@ -1,5 +1,6 @@
 //! Renumbering a sheet and a listing.
 
+use crate::record::Record;
 use crate::sheet::{Event, Module, Sheet};
 
 /// The sheet with its nodes renumbered, its modules listed in another order, and its drive and
@@ -16,20 +17,25 @@ pub fn renumbered(sheet: &Sheet, to: &[u8], order: &[usize]) -> Sheet {
     Sheet {
         nodes,
         modules: modules.collect(),
-        drive: events(sheet.drive.iter().copied(), to),
+        drive: drive(&sheet.drive, to),
         watched,
     }
 }
 
-/// The listing with only its node numbers changed, sorted by tick, then by node.
+/// The listing with only its node numbers changed, sorted by tick, then by node. The ends go along.
 pub fn renumbered_listing(listing: &[u8], to: &[u8]) -> Vec<u8> {
     let (records, rest) = listing.as_chunks();
     assert!(rest.is_empty(), "a listing is made of whole records");
-    let records = records.iter().map(|&record| Event::from_bytes(record));
-    events(records, to)
-        .into_iter()
-        .flat_map(Event::to_bytes)
-        .collect()
+    let record = |&bytes: &[u8; Record::BYTES]| {
+        let record = Record::from_bytes(bytes);
+        Record {
+            node: number(record.node, to),
+            ..record
+        }
+    };
+    let mut records: Vec<Record> = records.iter().map(record).collect();
+    records.sort_unstable_by_key(Record::key);
+    records.into_iter().flat_map(Record::to_bytes).collect()
 }
 
 fn number(node: u8, to: &[u8]) -> u8 {
@@ -47,13 +53,12 @@ fn module(module: &Module, to: &[u8]) -> Module {
     }
 }
 
-fn events(events: impl Iterator<Item = Event>, to: &[u8]) -> Vec<Event> {
-    let mut events: Vec<Event> = events
-        .map(|event| Event {
-            node: number(event.node, to),
-            ..event
-        })
-        .collect();
+fn drive(events: &[Event], to: &[u8]) -> Vec<Event> {
+    let event = |event: &Event| Event {
+        node: number(event.node, to),
+        ..*event
+    };
+    let mut events: Vec<Event> = events.iter().map(event).collect();
     events.sort_unstable_by_key(Event::key);
     events
 }

@@ -23,7 +23,7 @@ pub struct Module {
     pub delay: u16,
 }
 
-/// A record of the drive, and of a listing.
+/// A record of the drive.
 #[derive(Debug, Clone, Copy, PartialEq, Eq)]
 pub struct Event {
     pub tick: u32,
@@ -119,7 +119,7 @@ impl Module {
 
 impl Event {
     /// The bytes of one record.
-    pub(crate) const BYTES: usize = 6;
+    const BYTES: usize = 6;
 
     pub(crate) fn from_bytes(bytes: [u8; Event::BYTES]) -> Event {
         let [b0, b1, b2, b3, node, value] = bytes;
@@ -130,12 +130,12 @@ impl Event {
         }
     }
 
-    pub(crate) fn to_bytes(self) -> [u8; Event::BYTES] {
+    fn to_bytes(self) -> [u8; Event::BYTES] {
         let [b0, b1, b2, b3] = self.tick.to_le_bytes();
         [b0, b1, b2, b3, self.node, self.value]
     }
 
-    /// Records stand in order by tick, then by node.
+    /// Events stand in order by tick, then by node.
     pub(crate) fn key(&self) -> (u32, u8) {
         (self.tick, self.node)
     }

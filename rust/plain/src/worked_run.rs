@@ -1,4 +1,4 @@
-//! Document 01's one complete run.
+//! Document 01's one complete run, with the ends of document 02's W-204.
 
 /// The program's standard input: the horizon 12, then [`SHEET`].
 pub const INPUT: [u8; 35] = [
@@ -19,14 +19,24 @@ pub const SHEET: &[u8] = INPUT.split_at(4).1;
 
 /// What the program prints.
 pub const PRINTED: &str =
-    "finished, with a count of 6\n0 0 0\n0 1 X\n3 1 1\n5 0 1\n8 1 0\n11 1 1\n";
+    "finished, with a count of 6\n0 0 0 5\n0 1 X 3\n3 1 1 8\n5 0 1 12\n8 1 0 11\n11 1 1 12\n";
 
-/// The records of its listing: tick, node and value.
-pub const RECORDS: [(u32, u8, u8); 6] = [
-    (0, 0, 0),
-    (0, 1, 2),
-    (3, 1, 1),
-    (5, 0, 1),
-    (8, 1, 0),
-    (11, 1, 1),
+/// The records of its listing: tick, node, value and end.
+pub const RECORDS: [(u32, u8, u8, u32); 6] = [
+    (0, 0, 0, 5),
+    (0, 1, 2, 3),
+    (3, 1, 1, 8),
+    (5, 0, 1, 12),
+    (8, 1, 0, 11),
+    (11, 1, 1, 12),
+];
+
+/// The records where its buffer is a byte short and tick 11 is refused: node 0 has its last value
+/// then, and node 1 changes at the refused tick itself.
+pub const RECORDS_BEFORE_11: [(u32, u8, u8, u32); 5] = [
+    (0, 0, 0, 5),
+    (0, 1, 2, 3),
+    (3, 1, 1, 8),
+    (5, 0, 1, 11),
+    (8, 1, 0, 11),
 ];

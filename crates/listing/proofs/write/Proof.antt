@@ -6,9 +6,9 @@ use Rattle.listing.proofs.write.Statement.{statement}
 use Rattle.listing.proofs.write.Tie as tie
 
 returns : tie.Need-returns
-returns c =
+returns c buffer before H =
     let p = c .before .before .pre in
-    nothing-written (sym (p .3) ∙ c .if1 .taken) (p .2)
+    nothing-written (c .before .before .args .t) (sym (p .3) ∙ c .if1 .taken) (p .2) H
 
 write-fresh-requires : tie.Need-write-fresh-requires
 write-fresh-requires c κs = search needs
@@ -20,10 +20,9 @@ same-length : tie.Need-same-length
 same-length c = search needs
 
 returns-2 : tie.Need-returns-2
-returns-2 c =
-    let w = c .before .before .before .before .write-fresh .ensures in
+returns-2 c buffer before H =
     let h = c .show-all .ensures in
-    record { counted = w .0; bytes = w .1; now-shown = h .0; shown-size = h .1 }
+    record { holding = c .before .before .before .before .write-fresh .ensures buffer before H; now-shown = h .0; shown-size = h .1 }
 
 pub write-spec : {M : Type 1} → statement M
 write-spec =

@@ -9,6 +9,14 @@ use super::tables::Tables;
 /// No value: a node that has not been shown.
 const NOT_SHOWN: u8 = 4;
 
+/// A node that has no record yet.
+const NO_RECORD: usize = 0;
+
+type Record = [u8; RECORD_BYTES];
+
+/// Where a record's end stands.
+const END: usize = 6;
+
 /// What a run keeps from tick to tick.
 pub struct Tick<'a> {
     horizon: u32,
@@ -22,6 +30,8 @@ pub struct Tick<'a> {
     last: [u8; 256],
     /// The value of each watched node that was listed last.
     shown: [u8; 256],
+    /// One more than the number of each node's last record.
+    places: [usize; 256],
     changes: Changes,
 }
 
@@ -44,6 +54,7 @@ impl<'a> Tick<'a> {
             values,
             last,
             shown: [NOT_SHOWN; 256],
+            places: [NO_RECORD; 256],
             changes: Changes::new(),
         }
     }
@@ -104,13 +115,39 @@ impl<'a> Tick<'a> {
         watched.filter(|&&node| self.is_fresh(node)).count()
     }
 
-    /// Writes a record for each of them; there are as many places.
-    pub fn write_fresh(&self, tick: u32, records: &mut [u8]) {
-        let fresh = self.watched.iter().filter(|&&node| self.is_fresh(node));
-        let (places, _) = records.as_chunks_mut::<RECORD_BYTES>();
-        for (place, &node) in places.iter_mut().zip(fresh) {
-            let [b0, b1, b2, b3] = tick.to_le_bytes();
-            *place = [b0, b1, b2, b3, node, self.values[usize::from(node)]];
+    /// Writes a record for each of them, from place `written` on. The node's record before it ends
+    /// here.
+    pub fn write_fresh(&mut self, tick: u32, mut written: usize, records: &mut [Record]) {
+        for &node in self.watched {
+            if self.is_fresh(node) {
+                self.end_last(node, tick, records);
+                records[written] = self.record(tick, node);
+                written += 1;
+                self.places[usize::from(node)] = written;
+            }
+        }
+    }
+
+    /// The record of a node's value, which may last to the horizon.
+    fn record(&self, tick: u32, node: u8) -> Record {
+        let [t0, t1, t2, t3] = tick.to_le_bytes();
+        let [e0, e1, e2, e3] = self.horizon.to_le_bytes();
+        let value = self.values[usize::from(node)];
+        [t0, t1, t2, t3, node, value, e0, e1, e2, e3]
+    }
+
+    /// The node's last record, if it has one, ends at this tick.
+    fn end_last(&self, node: u8, tick: u32, records: &mut [Record]) {
+        let number = self.places[usize::from(node)];
+        if number != NO_RECORD {
+            records[number - 1][END..].copy_from_slice(&tick.to_le_bytes());
+        }
+    }
+
+    /// The values that still last end at this tick.
+    pub fn end_all(&self, tick: u32, records: &mut [Record]) {
+        for &node in self.watched {
+            self.end_last(node, tick, records);
         }
     }
 

@@ -4,6 +4,7 @@ use std::collections::BTreeSet;
 use std::sync::LazyLock;
 
 use compare::hex;
+use generate::limits::RECORD_BYTES;
 use generate::shared::{four_buffers, toggled};
 use generate::sheets::constant;
 use generate::{by_hand, Generator, Size};
@@ -75,9 +76,9 @@ fn answers_described() {
 #[test]
 fn the_worked_run() {
     let run = |bytes| ran(worked_run::SHEET, worked_run::HORIZON, bytes, "worked run");
-    assert_eq!(run(36), [0, 0, 6]);
+    assert_eq!(run(60), [0, 0, 6]);
     assert_eq!(run(60_000), [0, 0, 6]);
-    assert_eq!(run(35), [19, 11, 5]);
+    assert_eq!(run(59), [19, 11, 5]);
     assert_eq!(run(0), [19, 0, 0]);
     assert_eq!(checked(worked_run::SHEET, "worked run"), [0, 0]);
 }
@@ -96,7 +97,7 @@ fn refusals_of_a_run() {
         [20, 1_023, 1_024]
     );
     assert_eq!(
-        ran(&crowded, 10_000, 6_143, "no room before"),
+        ran(&crowded, 10_000, RECORD_BYTES * 1_024 - 1, "no room before"),
         [19, 1_023, 1_023]
     );
 }

@@ -19,14 +19,16 @@ static const uint8_t sheet[] = {
     2, 0, 0, 1           /* two watched nodes: 0 and 1 */
 };
 
-static uint32_t tick_of(const uint8_t *record)
+/* A number of four bytes, the low one first: a record's tick, and its end six bytes later. */
+static uint32_t number_at(const uint8_t *bytes)
 {
-    return record[0] | (uint32_t)record[1] << 8 | (uint32_t)record[2] << 16 | (uint32_t)record[3] << 24;
+    return bytes[0] | (uint32_t)bytes[1] << 8 | (uint32_t)bytes[2] << 16 | (uint32_t)bytes[3] << 24;
 }
 
 static void print_record(const uint8_t *record)
 {
-    printf("%" PRIu32 " %d %c\n", tick_of(record), record[4], "01XZ"[record[5]]);
+    printf("%" PRIu32 " %d %c %" PRIu32 "\n", number_at(record), record[4], "01XZ"[record[5]],
+           number_at(record + 6));
 }
 
 /* The answer's sentence, in a line. */

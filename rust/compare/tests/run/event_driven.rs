@@ -2,7 +2,8 @@
 
 use std::collections::BTreeMap;
 
-use generate::sheets::{Record, MEMORY};
+use generate::ends::ended;
+use generate::sheets::{Change, Record, MEMORY};
 use plain::{in_set, rule, Module, Sheet, INPUT, UNKNOWN};
 
 /// "Faults seen in such simulators", in document 01's order.
@@ -35,11 +36,11 @@ pub fn listing(sheet: &Sheet, horizon: u32, fault: Option<Fault>) -> Vec<Record>
         simulator.tick(tick, &changes);
         simulator.list(tick);
     }
-    simulator.records
+    ended(&simulator.changes, horizon)
 }
 
 /// A node and the value it takes.
-type Change = (u8, u8);
+type NewValue = (u8, u8);
 
 struct Simulator<'a> {
     sheet: &'a Sheet,
@@ -53,12 +54,13 @@ struct Simulator<'a> {
     /// What each module came to last, which is also what a memory holds.
     last: Vec<u8>,
     /// The changes to come, drive events included, by tick.
-    pending: BTreeMap<u32, Vec<Change>>,
+    pending: BTreeMap<u32, Vec<NewValue>>,
     /// The nodes that changed in this tick.
     changed: Vec<bool>,
     /// The value of each node as it was listed last.
     listed: Vec<Option<u8>>,
-    records: Vec<Record>,
+    /// What has been listed so far.
+    changes: Vec<Change>,
 }
 
 impl<'a> Simulator<'a> {
@@ -76,11 +78,11 @@ impl<'a> Simulator<'a> {
             pending: drive(sheet, horizon),
             changed: vec![false; sheet.nodes.len()],
             listed: vec![None; sheet.nodes.len()],
-            records: Vec::new(),
+            changes: Vec::new(),
         }
     }
 
-    fn tick(&mut self, tick: u32, changes: &[Change]) {
+    fn tick(&mut self, tick: u32, changes: &[NewValue]) {
         self.changed.fill(false);
         if self.fault == Some(Fault::FirstChange) && tick > 0 {
             let mut settled = vec![false; self.sheet.modules.len()];
@@ -206,7 +208,7 @@ impl<'a> Simulator<'a> {
             let value = self.present[usize::from(node)];
             let listed = self.listed[usize::from(node)].replace(value);
             if listed != Some(value) {
-                self.records.push((tick, node, value));
+                self.changes.push((tick, node, value));
             }
         }
     }
@@ -221,10 +223,10 @@ fn first_value(byte: u8) -> u8 {
 }
 
 /// The drive events below the horizon. Tick 0 is there even if nothing happens at it.
-fn drive(sheet: &Sheet, horizon: u32) -> BTreeMap<u32, Vec<Change>> {
+fn drive(sheet: &Sheet, horizon: u32) -> BTreeMap<u32, Vec<NewValue>> {
     let mut pending = BTreeMap::from([(0, Vec::new())]);
     for event in sheet.drive.iter().filter(|event| event.tick < horizon) {
-        let changes: &mut Vec<Change> = pending.entry(event.tick).or_default();
+        let changes: &mut Vec<NewValue> = pending.entry(event.tick).or_default();
         changes.push((event.node, event.value));
     }
     pending

@@ -1,6 +1,7 @@
 //! Document 01's "Faults seen in such simulators": for each a sheet on which a simulator with the
 //! fault goes wrong, and the proved library does not.
 
+use generate::ends::ended;
 use generate::shared::memory_after_gates;
 use generate::sheets::*;
 use generate::{room_for_all, Generator, RunInput};
@@ -12,8 +13,9 @@ use crate::event_driven::{listing, Fault, FAULTS};
 const HORIZON: u32 = 30;
 
 /// Asserts that the library, the plain simulator and one without faults list what is right, and
-/// the one with the fault what is wrong.
-fn shown(fault: Fault, sheet: &Sheet, right: &[Record], wrong: &[Record]) {
+/// the one with the fault what is wrong, each change with its end.
+fn shown(fault: Fault, sheet: &Sheet, right: &[Change], wrong: &[Change]) {
+    let [right, wrong] = [right, wrong].map(|changes| ended(changes, HORIZON));
     assert_eq!(listed(sheet, HORIZON, "a fault"), right, "the library");
     assert_eq!(listing(sheet, HORIZON, None), right, "without a fault");
     assert_ne!(right, wrong);
@@ -37,7 +39,7 @@ fn short_pulse() -> Sheet {
     sheet(&[INPUT, LOW], &modules, &drive, &[1])
 }
 
-const SHORT_PULSE: [Record; 3] = [(0, 1, 0), (15, 1, 1), (17, 1, 0)];
+const SHORT_PULSE: [Change; 3] = [(0, 1, 0), (15, 1, 1), (17, 1, 0)];
 
 #[test]
 fn a_new_result_is_compared_with_the_present_value() {
@@ -71,6 +73,7 @@ fn a_memory_catches_a_passing_value_inside_a_tick() {
     shown(Fault::PassingValue, &as_listed, &right, &wrong);
     // The same modules reversed: there the fault does not show.
     let reversed = renumbered(&as_listed, &[0, 1, 2, 3], &[2, 1, 0]);
+    let right = ended(&right, HORIZON);
     assert_eq!(listed(&reversed, HORIZON, "reversed"), right);
     let faulty = listing(&reversed, HORIZON, Some(Fault::PassingValue));
     assert_eq!(faulty, right);

@@ -1,10 +1,12 @@
 //! Generated sheets, good and bad, with horizons and buffers of every sort.
 
-use compare::{count, seed};
+use compare::{count, hex, seed};
+use generate::ends::{changes, ended, last_end, EndsMet};
 use generate::limits::RECORD_BYTES;
+use generate::sheets::{records, Record};
 use generate::{assert_met, room_for_all, starts_of, Generator, Room, RunInput, Start};
 
-use crate::agreed::agreed;
+use crate::agreed::{agreed, Outcome};
 
 /// The records that a run would write if it were lent room for all of them.
 fn all_records(input: &RunInput) -> usize {
@@ -24,6 +26,7 @@ struct Met {
     lively: u64,
     /// Finished runs with an input that is X at first, without an event at tick 0.
     begun_unknown: u64,
+    ends: EndsMet,
 }
 
 impl Met {
@@ -44,6 +47,7 @@ impl Met {
         assert!(self.numbers[0] >= 30_000, "seed {seed}: {self:?}");
         assert!(self.lively >= 10_000, "seed {seed}: {self:?}");
         assert!(self.begun_unknown >= 10_000, "seed {seed}: {self:?}");
+        self.ends.assert_often(1_000, &format!("seed {seed}"));
         for (room, [lent, too_short]) in Room::ALL.into_iter().zip(self.rooms) {
             let never = matches!(room, Room::Exact | Room::Ample);
             assert!(lent >= 10_000, "seed {seed}, {room:?}: {self:?}");
@@ -64,18 +68,26 @@ fn generated_runs() {
         let room = buffers.room();
         let length = buffers.bytes_of(room, all_records(&input));
         let whence = format!("seed {seed}, run {place}, {room:?}");
-        let outcome = agreed(&input.sheet, input.horizon, length, &whence);
-        let is_lively = has_change(&outcome.listing);
-        met.add(outcome.answer[0], room, is_lively, begins_unknown(&input));
+        let Outcome { answer, listing } = agreed(&input.sheet, input.horizon, length, &whence);
+        let records = records(&listing);
+        // Every end is read back from the records themselves.
+        let read_back = ended(&changes(&records), last_end(answer, input.horizon));
+        assert!(records == read_back, "{whence}: {}", hex(&input.sheet));
+        met.ends.add(answer, input.horizon, &records);
+        met.add(
+            answer[0],
+            room,
+            has_change(&records),
+            begins_unknown(&input),
+        );
     }
     println!("seed {seed}: {met:?}");
     met.assert_often(seed);
 }
 
 /// Whether a record stands at a tick above 0.
-fn has_change(listing: &[u8]) -> bool {
-    let last = listing.last_chunk::<RECORD_BYTES>();
-    last.is_some_and(|record| record[..4] != [0; 4])
+fn has_change(records: &[Record]) -> bool {
+    records.last().is_some_and(|&(tick, ..)| tick > 0)
 }
 
 /// Whether an input of an accepted sheet has no event at tick 0.

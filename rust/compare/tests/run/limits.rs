@@ -27,7 +27,7 @@ fn pending_4097_does_not() {
     let Outcome { answer, listing } = run(&sheet, 10_000, 60_000);
     assert_eq!(answer, [20, 1_023, 1_024]);
     // The records of the refused tick itself are there.
-    assert_eq!(records(&listing).last(), Some(&(1_023, 0, 0)));
+    assert_eq!(records(&listing).last(), Some(&(1_023, 0, 0, 1_024)));
     // The tick meets both conditions where the buffer has no room for its record.
     assert_eq!(
         run(&sheet, 10_000, RECORD_BYTES * 1_024).answer,
@@ -71,22 +71,29 @@ fn star(buffers: u8, delay: u16) -> Sheet {
 
 #[test]
 fn many_modules_with_changes_pending() {
+    // The inverter has a record at each tick.
+    let answer = |sheet, horizon| {
+        let length = RECORD_BYTES * horizon as usize;
+        run(&sheet, horizon, length).answer
+    };
     // 255 changes more at each tick: 4,081 after tick 16, 4,336 after tick 17.
-    assert_eq!(run(&star(255, 16), 100, 600).answer, [0, 0, 100]);
-    assert_eq!(run(&star(255, 17), 100, 600).answer, [20, 17, 18]);
+    assert_eq!(answer(star(255, 16), 100), [0, 0, 100]);
+    assert_eq!(answer(star(255, 17), 100), [20, 17, 18]);
     // 15 times 273 and the inverter's own are 4,096.
-    assert_eq!(run(&star(15, 273), 900, 6_000).answer, [0, 0, 900]);
-    assert_eq!(run(&star(15, 274), 900, 6_000).answer, [20, 274, 275]);
-    assert_eq!(run(&star(16, 300), 900, 6_000).answer, [20, 256, 257]);
+    assert_eq!(answer(star(15, 273), 900), [0, 0, 900]);
+    assert_eq!(answer(star(15, 274), 900), [20, 274, 275]);
+    assert_eq!(answer(star(16, 300), 900), [20, 256, 257]);
 }
 
 #[test]
 fn the_last_horizon() {
-    let run_to = |horizon| agreed(worked_run::SHEET, horizon, 2_100_000, "the last horizon");
+    let length = RECORD_BYTES * 333_335;
+    let run_to = |horizon| agreed(worked_run::SHEET, horizon, length, "the last horizon");
     // From tick 8 on the NAND changes every third tick: 333,330 more times up to tick 999,998.
     let Outcome { answer, listing } = run_to(1_000_000);
     assert_eq!(answer, [0, 0, 333_335]);
-    assert_eq!(records(&listing).last(), Some(&(999_998, 1, 0)));
+    let last = (999_998, 1, 0, 1_000_000);
+    assert_eq!(records(&listing).last(), Some(&last));
     assert_eq!(run_to(1_000_001).answer, [1, 0, 0]);
     assert_eq!(run_to(u32::MAX).answer, [1, 0, 0]);
     assert_eq!(run_to(0).answer, [1, 0, 0]);
@@ -100,7 +107,13 @@ fn the_last_tick_of_the_last_horizon() {
     let sheet = sheet(&[INPUT, UNKNOWN], &modules, &drive, &[0, 1]);
     let Outcome { answer, listing } = run(&sheet, 1_000_000, 600);
     assert_eq!(answer, [0, 0, 4]);
-    assert_eq!(records(&listing)[2..], [(999_999, 0, 1), (999_999, 1, 1)]);
+    let expected = [
+        (0, 0, 0, 999_999),
+        (0, 1, 0, 999_999),
+        (999_999, 0, 1, 1_000_000),
+        (999_999, 1, 1, 1_000_000),
+    ];
+    assert_eq!(records(&listing), expected);
     assert_eq!(run(&sheet, 999_999, 600).answer, [0, 0, 2]);
 }
 
@@ -113,7 +126,7 @@ fn a_memory_up_to_the_last_horizon() {
         memory(0b0010, [0, 1], 2, 3),
     ];
     let sheet = sheet(&[LOW; 3], &modules, &[], &[2]);
-    let Outcome { answer, listing } = run(&sheet, 1_000_000, 6_000_000);
+    let Outcome { answer, listing } = run(&sheet, 1_000_000, RECORD_BYTES * 1_000_000);
     assert_eq!(answer[0], 0);
     assert!(records(&listing).len() > 400_000);
 }
@@ -126,9 +139,12 @@ fn the_longest_delay() {
     };
     let Outcome { answer, listing } = run(&delayed_by(10_000), 10_001, 60);
     assert_eq!(answer, [0, 0, 2]);
-    assert_eq!(records(&listing), [(0, 1, UNKNOWN), (10_000, 1, HIGH)]);
-    // The change falls on the horizon and is not listed.
-    assert_eq!(run(&delayed_by(10_000), 10_000, 60).answer, [0, 0, 1]);
+    let expected = [(0, 1, UNKNOWN, 10_000), (10_000, 1, HIGH, 10_001)];
+    assert_eq!(records(&listing), expected);
+    // The change falls on the horizon and is not listed. The value before it ends there as well.
+    let Outcome { answer, listing } = run(&delayed_by(10_000), 10_000, 60);
+    assert_eq!(answer, [0, 0, 1]);
+    assert_eq!(records(&listing), expected[..1]);
     // The module stands after two counts and two nodes.
     assert_eq!(run(&delayed_by(10_001), 10_002, 60).answer, [8, 6, 0]);
 }

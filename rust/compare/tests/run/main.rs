@@ -3,6 +3,7 @@
 
 mod agreed;
 mod document_01;
+mod ends;
 mod event_driven;
 mod faults;
 mod generated;

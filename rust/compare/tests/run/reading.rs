@@ -1,5 +1,6 @@
 //! Refusals of reading: a run gives those that checking gives, after 1 and before any other.
 
+use generate::limits::RECORD_BYTES;
 use generate::{by_hand, every, Generator, Size};
 use plain::worked_run;
 
@@ -10,13 +11,14 @@ const NOTHING_READ: [u32; 3] = [1, 0, 0];
 #[test]
 fn answers_worked_out_by_hand() {
     let cases = by_hand::cases();
+    let length = RECORD_BYTES * 1_000;
     for case in &cases {
-        let Outcome { answer, listing } = agreed(&case.sheet, 9, 6_000, case.name);
+        let Outcome { answer, listing } = agreed(&case.sheet, 9, length, case.name);
         let [number, place, _] = answer;
         assert_eq!([number, place, 0], case.answer, "{}", case.name);
         assert!(number == 0 || listing.is_empty(), "{}", case.name);
         for horizon in [0, 1_000_001, u32::MAX] {
-            let outcome = proved(&case.sheet, horizon, 6_000, case.name);
+            let outcome = proved(&case.sheet, horizon, length, case.name);
             assert_eq!(outcome.answer, NOTHING_READ, "{}", case.name);
         }
     }
@@ -40,9 +42,10 @@ fn every_truncation() {
 #[test]
 fn every_value_of_every_byte() {
     let start = by_hand::start().encode();
+    let length = RECORD_BYTES * 10;
     for sheet in [worked_run::SHEET, &start] {
         for changed in every::single_bytes(sheet) {
-            agreed(&changed, worked_run::HORIZON, 60, "one byte changed");
+            agreed(&changed, worked_run::HORIZON, length, "one byte changed");
         }
     }
 }

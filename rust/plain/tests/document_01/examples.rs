@@ -1,6 +1,7 @@
 //! Document 01's examples that are runs.
 
 use crate::support::*;
+use generate::limits::RECORD_BYTES;
 use plain::{worked_run, Answer, HIGH, INPUT, LOW, UNKNOWN};
 
 #[test]
@@ -34,18 +35,18 @@ fn worked_run_has_the_stated_cells() {
 }
 
 #[test]
-fn worked_run_in_36_bytes() {
-    let (answer, listing) = run(worked_run::SHEET, worked_run::HORIZON, 36);
+fn worked_run_in_60_bytes() {
+    let (answer, listing) = run(worked_run::SHEET, worked_run::HORIZON, 60);
     assert_eq!(answer, Answer::Ran { count: 6 });
     assert_eq!(records(&listing), worked_run::RECORDS);
 }
 
 #[test]
-fn worked_run_in_35_bytes() {
-    let (answer, listing) = run(worked_run::SHEET, worked_run::HORIZON, 35);
+fn worked_run_in_59_bytes() {
+    let (answer, listing) = run(worked_run::SHEET, worked_run::HORIZON, 59);
     assert_eq!(answer.triple(), [19, 11, 5]);
-    assert_eq!(records(&listing[..30]), worked_run::RECORDS[..5]);
-    assert_eq!(listing[30..], [UNTOUCHED; 5]);
+    assert_eq!(records(&listing[..50]), worked_run::RECORDS_BEFORE_11);
+    assert_eq!(listing[50..], [UNTOUCHED; 9]);
 }
 
 #[test]
@@ -60,7 +61,7 @@ fn memory_takes_what_stands_when_its_set_is_met() {
 
 #[test]
 fn horizon_at_its_limits() {
-    let run_to = |horizon| run(worked_run::SHEET, horizon, 3_000_000).0;
+    let run_to = |horizon| run(worked_run::SHEET, horizon, RECORD_BYTES * 333_335).0;
     assert_eq!(run_to(0).triple(), [1, 0, 0]);
     assert_eq!(run_to(1), Answer::Ran { count: 2 });
     // From tick 8 on the NAND changes every third tick: 333,330 more times up to tick 999,998.
@@ -77,7 +78,7 @@ fn delay_at_its_limit() {
     };
     assert_eq!(
         listed(&delayed_by(10_000), 10_001),
-        [(0, 1, UNKNOWN), (10_000, 1, HIGH)]
+        [(0, 1, UNKNOWN, 10_000), (10_000, 1, HIGH, 10_001)]
     );
     // The module stands after two counts and two nodes.
     let (answer, _) = run(&delayed_by(10_001).encode(), 10_002, 60);
@@ -89,7 +90,7 @@ fn inverter_onto_its_own_input() {
     let with_delay = |delay| sheet(&[LOW], &[gate(INVERTER, [0, 0], 0, delay)], &[], &[0]);
     assert_eq!(
         listed(&with_delay(1), 4),
-        [(0, 0, 0), (1, 0, 1), (2, 0, 0), (3, 0, 1)]
+        [(0, 0, 0, 1), (1, 0, 1, 2), (2, 0, 0, 3), (3, 0, 1, 4)]
     );
     let (answer, listing) = run(&with_delay(0).encode(), 4, 60);
     assert_eq!(answer.triple(), [18, 0, 0]);

@@ -1,6 +1,7 @@
 //! The plain simulator against document 01: its examples, and what it says of each part.
 
 mod drive;
+mod ends;
 mod examples;
 mod faults;
 mod gates;

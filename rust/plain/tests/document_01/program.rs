@@ -1,6 +1,7 @@
 //! What the program prints.
 
 use crate::support::*;
+use generate::limits::MOST_PRINTED;
 use plain::{program, sentence, worked_run, Answer, INPUT, LOW};
 
 fn printed(input: &[u8]) -> String {
@@ -45,7 +46,8 @@ fn a_refusal_prints_its_sentence_alone() {
 fn every_value_has_its_symbol() {
     let drive = [(0, 0, 0), (10, 0, 1), (200, 0, 2), (3_000, 0, 3)];
     let sheet = sheet(&[INPUT], &[], &drive, &[0]).encode();
-    let expected = "finished, with a count of 4\n0 0 0\n10 0 1\n200 0 X\n3000 0 Z\n";
+    let expected =
+        "finished, with a count of 4\n0 0 0 10\n10 0 1 200\n200 0 X 3000\n3000 0 Z 1000000\n";
     assert_eq!(printed_for(1_000_000, &sheet), expected);
 }
 
@@ -56,13 +58,13 @@ fn no_records() {
 }
 
 #[test]
-fn ten_thousand_records_are_lent_room() {
+fn six_thousand_records_are_lent_room() {
     let ring = sheet(&[LOW], &[gate(INVERTER, [0, 0], 0, 1)], &[], &[0]).encode();
-    let full = printed_for(10_000, &ring);
-    assert!(full.starts_with("finished, with a count of 10000\n0 0 0\n1 0 1\n"));
-    assert!(full.ends_with("\n9999 0 1\n"));
+    let full = printed_for(MOST_PRINTED, &ring);
+    assert!(full.starts_with("finished, with a count of 6000\n0 0 0 1\n1 0 1 2\n"));
+    assert!(full.ends_with("\n5999 0 1 6000\n"));
     // Records that were written before a refusal are not printed.
-    assert_eq!(printed_for(10_001, &ring), refused(19, 10_000, 10_000));
+    assert_eq!(printed_for(6_001, &ring), refused(19, 6_000, 6_000));
 }
 
 /// The longest sheet that is accepted: every section is full but for the one module that an input
@@ -80,7 +82,8 @@ fn longest() -> Vec<u8> {
 fn the_longest_sheet_is_read_whole() {
     let mut sheet = longest();
     assert_eq!(sheet.len(), 8_449);
-    assert!(printed_for(1, &sheet).starts_with("finished, with a count of 256\n0 0 0\n0 1 0\n"));
+    let printed = printed_for(1, &sheet);
+    assert!(printed.starts_with("finished, with a count of 256\n0 0 0 1\n0 1 0 1\n"));
     sheet.push(0);
     assert_eq!(printed_for(1, &sheet), refused(17, 8_449, 0));
 }

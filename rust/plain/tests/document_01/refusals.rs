@@ -1,6 +1,7 @@
 //! Refusals 1, 19 and 20, and what a refusal leaves in the buffer.
 
 use crate::support::*;
+use generate::limits::RECORD_BYTES;
 use generate::shared::{four_buffers, toggled};
 use plain::{worked_run, Answer, HIGH, LOW};
 
@@ -20,9 +21,8 @@ fn pending_4097_does_not() {
     let (answer, listing) = run(&toggled(&modules).encode(), 10_000, 60_000);
     assert_eq!(answer.triple(), [20, 1_023, 1_024]);
     // The records of the refused tick itself are there.
-    let records = records(&listing[..6 * 1_024]);
-    assert_eq!(records.last(), Some(&(1_023, 0, 0)));
-    assert!(listing[6 * 1_024..].iter().all(|&byte| byte == UNTOUCHED));
+    let records = written(answer, &listing);
+    assert_eq!(records.last(), Some(&(1_023, 0, 0, 1_024)));
 }
 
 /// An inverter onto its own input, changing at every tick and so having one change pending, and a
@@ -63,19 +63,19 @@ fn full_buffer_comes_before_pending() {
     modules.push(constant(HIGH, 5, 5_000));
     let bytes = toggled(&modules).encode();
     // Tick 1,023 meets both conditions; its record is the 1,024th.
-    let (answer, _) = run(&bytes, 10_000, 6 * 1_023);
+    let (answer, _) = run(&bytes, 10_000, RECORD_BYTES * 1_023);
     assert_eq!(answer.triple(), [19, 1_023, 1_023]);
-    let (answer, _) = run(&bytes, 10_000, 6 * 1_024);
+    let (answer, _) = run(&bytes, 10_000, RECORD_BYTES * 1_024);
     assert_eq!(answer.triple(), [20, 1_023, 1_024]);
 }
 
 #[test]
 fn a_tick_is_listed_whole_or_not_at_all() {
     // Tick 0 has two records: a buffer for one takes none.
-    let (answer, listing) = run(worked_run::SHEET, worked_run::HORIZON, 11);
+    let (answer, listing) = run(worked_run::SHEET, worked_run::HORIZON, 19);
     assert_eq!(answer.triple(), [19, 0, 0]);
-    assert_eq!(listing, [UNTOUCHED; 11]);
-    let (answer, _) = run(worked_run::SHEET, worked_run::HORIZON, 12);
+    assert_eq!(listing, [UNTOUCHED; 19]);
+    let (answer, _) = run(worked_run::SHEET, worked_run::HORIZON, 20);
     assert_eq!(answer.triple(), [19, 3, 2]);
 }
 

@@ -1,7 +1,8 @@
 //! Renumbering a sheet and a listing.
 
 use crate::support::*;
-use plain::{renumbered, renumbered_listing, INPUT, UNKNOWN};
+use generate::limits::RECORD_BYTES;
+use plain::{renumbered, renumbered_listing, Answer, INPUT, UNKNOWN};
 
 #[test]
 fn every_record_as_stated() {
@@ -33,11 +34,36 @@ fn unused_inputs_stay_0() {
 
 #[test]
 fn a_listing_is_sorted_again() {
-    let listing = sheet(&[], &[], &[(0, 0, 1), (0, 2, 0), (4, 1, 3), (4, 2, 2)], &[]);
-    let expected = sheet(&[], &[], &[(0, 0, 0), (0, 1, 1), (4, 0, 2), (4, 2, 3)], &[]);
-    // The drive's records are the listing's: both stand after the counts of nodes and modules
-    // and their own, and before the count of watched nodes.
-    let records = |sheet: &plain::Sheet| sheet.encode()[6..30].to_vec();
-    let renumbered = renumbered_listing(&records(&listing), &[1, 2, 0]);
-    assert_eq!(renumbered, records(&expected));
+    // Two inputs change at tick 4 and one never does. Node 0 becomes 1, 1 becomes 2 and 2 becomes 0.
+    let drive = [
+        (0, 0, 1),
+        (0, 1, 2),
+        (0, 2, 0),
+        (4, 1, 3),
+        (4, 2, 2),
+        (7, 2, 0),
+    ];
+    let original = sheet(&[INPUT; 3], &[], &drive, &[0, 1, 2]);
+    let (answer, listing) = run(&original.encode(), 9, 6 * RECORD_BYTES);
+    assert_eq!(answer, Answer::Ran { count: 6 });
+    let whole = [
+        (0, 0, 1, 9),
+        (0, 1, 2, 4),
+        (0, 2, 0, 4),
+        (4, 1, 3, 9),
+        (4, 2, 2, 7),
+        (7, 2, 0, 9),
+    ];
+    assert_eq!(records(&listing), whole);
+    // Every record keeps its end.
+    let renumbered = renumbered_listing(&listing, &[1, 2, 0]);
+    let expected = [
+        (0, 0, 0, 4),
+        (0, 1, 1, 9),
+        (0, 2, 2, 4),
+        (4, 0, 2, 7),
+        (4, 2, 3, 9),
+        (7, 0, 0, 9),
+    ];
+    assert_eq!(records(&renumbered), expected);
 }

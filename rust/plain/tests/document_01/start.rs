@@ -5,7 +5,7 @@ use generate::shared::{unknown_at_first, UNKNOWN_AT_FIRST};
 use plain::{Answer, Sheet, HIGH, INPUT, LOW, UNKNOWN};
 
 /// An input with these events, and nothing else.
-fn input(drive: &[Record]) -> Sheet {
+fn input(drive: &[Change]) -> Sheet {
     sheet(&[INPUT], &[], drive, &[0])
 }
 
@@ -17,18 +17,19 @@ fn cells(sheet: &Sheet, horizon: u32) -> Vec<Vec<u8>> {
 fn unknown_until_the_first_event() {
     let late = input(&[(3, 0, LOW), (5, 0, HIGH)]);
     assert_eq!(cells(&late, 7)[0], [2, 2, 2, 0, 0, 1, 1]);
-    assert_eq!(listed(&late, 7), [(0, 0, 2), (3, 0, 0), (5, 0, 1)]);
+    let expected = [(0, 0, 2, 3), (3, 0, 0, 5), (5, 0, 1, 7)];
+    assert_eq!(listed(&late, 7), expected);
     // An event of X changes nothing.
     let unknown = input(&[(3, 0, UNKNOWN), (5, 0, HIGH)]);
-    assert_eq!(listed(&unknown, 7), [(0, 0, 2), (5, 0, 1)]);
+    assert_eq!(listed(&unknown, 7), [(0, 0, 2, 5), (5, 0, 1, 7)]);
 }
 
 #[test]
 fn unknown_throughout_without_an_event() {
     assert_eq!(cells(&input(&[]), 5)[0], [UNKNOWN; 5]);
-    assert_eq!(listed(&input(&[]), 5), [(0, 0, 2)]);
+    assert_eq!(listed(&input(&[]), 5), [(0, 0, 2, 5)]);
     // One past the horizon has no effect.
-    assert_eq!(listed(&input(&[(5, 0, HIGH)]), 5), [(0, 0, 2)]);
+    assert_eq!(listed(&input(&[(5, 0, HIGH)]), 5), [(0, 0, 2, 5)]);
 }
 
 #[test]

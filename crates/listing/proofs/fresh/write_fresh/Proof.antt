@@ -1,32 +1,34 @@
 -- `listing::fresh::write_fresh` meets its contract. The loop's invariant: the records of the nodes passed are written. Assumes nothing.
 use borrow.Author.Needs.{needs}
+use mathlib.Core.List.{List, [], _∷_, _++_, append-assoc, append-nil}
 use mathlib.Core.Logic.{inl, inr}
-use mathlib.Core.Path.{_≡_, refl, sym, ap, _∙_}
-use Prim.Native.Nat.{_+_, _*_, _<_, _≤_, _-_}
+use mathlib.Core.Path.{_≡_, refl, sym, ap, _∙_, subst}
+use Prim.Native.Nat.{ℕ, _+_, _*_, _<_, _≤_, _-_}
 use native.Mathlib.Nat.{add-zero}
 use native.Mathlib.Numerals.{add-one}
 use native.Mathlib.Omega.{arith}
 use lib.ListN.{length, take, length-append}
+use Rattle.network.specs.Listing.{Record}
 use Rattle.network.specs.Buffer.{recordSize}
 use Rattle.model.specs.Fresh.{fresh}
-use Rattle.listing.specs.Record.{written}
-use Rattle.listing.proofs.Buffer.{written-none, written-more}
+use Rattle.listing.specs.Ends.{Holding}
 use Rattle.listing.proofs.FreshLists.{fresh-room, fresh-same, fresh-new}
 use Rattle.listing.proofs.fresh.write_fresh.Statement.{statement}
 use Rattle.listing.proofs.fresh.write_fresh.Tie as tie
 
 abbrev Inv-loop : tie.InvT-loop
-Inv-loop listing₀ at t watched n values shown c₀ k₀ listing c k =
-    (k ≤ n) × (length listing ≡ length listing₀) × (c ≡ at + length (fresh t values shown (take k watched))) × (listing ≡ written at (fresh t values shown (take k watched)) listing₀)
+Inv-loop listing₀ at t horizon watched n values shown places₀ c₀ k₀ listing places c k =
+    (k ≤ n) × (length listing ≡ length listing₀) × (c ≡ at + length (fresh t values shown (take k watched)))
+    × ((buffer : List ℕ) (before : List Record) → Holding buffer horizon before at listing₀ places₀ → Holding buffer horizon (before ++ fresh t values shown (take k watched)) c listing places)
 
 abbrev μ-loop : tie.MeasureT-loop
-μ-loop listing₀ at t watched n values shown c₀ k₀ listing c k = n - k
+μ-loop listing₀ at t horizon watched n values shown places₀ c₀ k₀ listing places c k = n - k
 
 loop-holds : tie.Need-loop-holds Inv-loop μ-loop
 unfolding fresh
 loop-holds c =
     let a = c .before .args in
-    (omega arith, refl, sym (add-zero (a .at)), written-none (a .at) (a .listing .now))
+    (omega arith, refl, sym (add-zero (a .at)), λ buffer before H. rw append-nil H)
 
 element-copy-out-node : tie.Need-element-copy-out-node Inv-loop μ-loop
 element-copy-out-node c = omega arith
@@ -54,14 +56,17 @@ room c =
       fresh-room (a .values .now) (a .shown .now) (a .watched .now) (t .loop .k) (wide .result) (omega arith) (wide .ensures .0) (c .if1 .taken) (a .t) (a .n) b,
     )
 
-element-copy-out-write-record : tie.Need-element-copy-out-write-record Inv-loop μ-loop
-element-copy-out-write-record c = omega arith
+element-copy-out-write-value : tie.Need-element-copy-out-write-value Inv-loop μ-loop
+element-copy-out-write-value c = omega arith
 
-write-record-requires : tie.Need-write-record-requires Inv-loop μ-loop
-write-record-requires c κs = omega (arith, room (c .before .before))
+write-value-requires : tie.Need-write-value-requires Inv-loop μ-loop
+write-value-requires c κs =
+    let t = c .before .before .before .before .before .before .before .before .before in
+    let held = t .before .before .pre .3 in
+    ((held .0, _, t .loop .inv .3 (held .0) (held .1) (held .2)), omega (arith, room (c .before .before .before), t .loop .inv .1))
 
 add-c : tie.Need-add-c Inv-loop μ-loop
-add-c c = omega (arith, room (c .before .before .before .before .before))
+add-c c = omega (arith, room (c .before .before .before .before .before .before))
 
 add-k : tie.Need-add-k Inv-loop μ-loop
 add-k c = omega arith
@@ -80,16 +85,17 @@ loop-again c =
     elim (c .if1 .came) [
       | inl w ↦ (
         omega arith,
-        ap length (w .6) ∙ w .3 .kept .0 ∙ t .loop .inv .1,
-        rw (add-one, new (w .0 .taken) (a .t), length-append) (omega (arith, w .7, t .loop .inv .2)),
-        rw (add-one, new (w .0 .taken) (a .t), w .6, w .3 .ensures, t .loop .inv .2)
-            (written-more (a .at) (fresh (a .t) (a .values .now) (a .shown .now) (take (t .loop .k) (a .watched .now))) _ (a .listing .now) (t .loop .listing) (omega (arith, t .loop .inv .2, room (record { before = c .before; if1 = w .0 }))) (t .loop .inv .3)),
+        ap length (w .7) ∙ w .4 .kept .0 ∙ t .loop .inv .1,
+        rw (add-one, new (w .0 .taken) (a .t), length-append) (omega (arith, w .9, t .loop .inv .2)),
+        λ buffer before H.
+            rw (add-one, new (w .0 .taken) (a .t), w .7, w .8, w .9, ← append-assoc before (fresh (a .t) (a .values .now) (a .shown .now) (take (t .loop .k) (a .watched .now))) _)
+            (w .4 .ensures buffer (before ++ fresh (a .t) (a .values .now) (a .shown .now) (take (t .loop .k) (a .watched .now))) (t .loop .inv .3 buffer before H)),
       )
       | inr w ↦ (
         omega arith,
         ap length (w .1) ∙ t .loop .inv .1,
-        w .2 ∙ t .loop .inv .2 ∙ rw (add-one, same (w .0 .left) (a .t)),
-        w .1 ∙ t .loop .inv .3 ∙ rw (add-one, same (w .0 .left) (a .t)),
+        w .3 ∙ t .loop .inv .2 ∙ rw (add-one, same (w .0 .left) (a .t)),
+        λ buffer before H. rw (add-one, same (w .0 .left) (a .t), w .1, w .2, w .3) (t .loop .inv .3 buffer before H),
       )
     ]
 
@@ -97,11 +103,11 @@ same-length : tie.Need-same-length Inv-loop μ-loop
 same-length c = c .before .loop .inv .1
 
 returns : tie.Need-returns Inv-loop μ-loop
-returns c =
+returns c buffer before H =
     let loop = c .before .loop in
     let a = c .before .before .before .args in
     let all : loop .k ≡ a .n = omega arith in
-    (loop .inv .2 ∙ rw all, loop .inv .3 ∙ rw all)
+    rw (← all) (loop .inv .3 buffer before H)
 
 pub write-fresh-spec : {M : Type 1} → statement M
 write-fresh-spec =
@@ -114,8 +120,8 @@ write-fresh-spec =
     wide-requires
     element-copy-out-if1
     element-copy-out-if1-2
-    element-copy-out-write-record
-    write-record-requires
+    element-copy-out-write-value
+    write-value-requires
     add-c
     add-k
     loop-less

@@ -21,10 +21,16 @@ add-byte-2 c = search needs
 byte-requires-2 : tie.Need-byte-requires-2
 byte-requires-2 c κs = search needs
 
+add-long : tie.Need-add-long
+add-long c = search needs
+
+long-requires-2 : tie.Need-long-requires-2
+long-requires-2 c κs = search needs
+
 returns : tie.Need-returns
 returns c = cc
 
 pub record-at-spec : {M : Type 1} → statement M
 record-at-spec =
     tie.close
-    (tie.spec mul-at long-requires add-byte byte-requires add-byte-2 byte-requires-2 returns)
+    (tie.spec mul-at long-requires add-byte byte-requires add-byte-2 byte-requires-2 add-long long-requires-2 returns)

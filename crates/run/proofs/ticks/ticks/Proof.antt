@@ -7,18 +7,18 @@ use native.Mathlib.Omega.{arith}
 use Prim.Native.Nat.{_-_}
 use Rattle.sheet.specs.Sheet.{Sheet}
 use Rattle.run.specs.Ready.{kept, Ready}
-use Rattle.run.proofs.BetweenTicks.{BetweenTicks, start, workable, told-full, told-crowded, told-next, reached, few-records, few-left, same-length-so-far}
+use Rattle.run.proofs.BetweenTicks.{BetweenTicks, start, workable, among-watched, told-full, told-crowded, told-next, reached, few-records, few-left, same-length-so-far}
 use Rattle.run.proofs.ticks.ticks.Statement.{statement}
 use Rattle.run.proofs.ticks.ticks.Tie as tie
 
 abbrev Inv-loop : tie.InvT-loop
-Inv-loop shape horizon gates table delays times nodes levels watched count values₀ last₀ shown₀ store₀ listing₀ t₀ next₀ due₀ n₀ values last shown store listing t next due n =
+Inv-loop shape horizon gates table delays times nodes levels watched count values₀ last₀ shown₀ store₀ listing₀ t₀ next₀ due₀ n₀ places₀ values last shown store listing t next due n places =
     ((S : Sheet) × Ready S table delays times nodes levels watched (kept values₀ last₀ shown₀ store₀ 0) horizon shape count)
     × ((S : Sheet) → Ready S table delays times nodes levels watched (kept values₀ last₀ shown₀ store₀ 0) horizon shape count
-    → BetweenTicks S (kept values₀ last₀ shown₀ store₀ 0) horizon listing₀ t next due n values last shown store listing)
+    → BetweenTicks S (kept values₀ last₀ shown₀ store₀ 0) horizon listing₀ t next due n values last shown store listing places)
 
 abbrev μ-loop : tie.MeasureT-loop
-μ-loop shape horizon gates table delays times nodes levels watched count values₀ last₀ shown₀ store₀ listing₀ t₀ next₀ due₀ n₀ values last shown store listing t next due n = horizon - t
+μ-loop shape horizon gates table delays times nodes levels watched count values₀ last₀ shown₀ store₀ listing₀ t₀ next₀ due₀ n₀ places₀ values last shown store listing t next due n places = horizon - t
 
 loop-holds : tie.Need-loop-holds Inv-loop μ-loop
 loop-holds c =
@@ -35,82 +35,89 @@ work-requires c κs =
 
 list-requires : tie.Need-list-requires Inv-loop μ-loop
 list-requires c κs =
-    let l = c .before .before .before .before .before .before .before .before in
-    let i = l .loop .inv in
+    let i = c .before .before .before .before .before .before .before .before .before .loop .inv in
     let R = i .0 .1 in
-    (R .watched-few, R .watched-size, i .1 _ R .shown-size)
+    let G = i .1 _ R in
+    (R .watched-few, R .watched-size, G .shown-size, c .before .before .before .before .before .before .before .before .loop-test .taken, (_, _, G .holding))
 
 enum-told : tie.Need-enum-told Inv-loop μ-loop
 enum-told c = search needs
 
-cast-t33 : tie.Need-cast-t33 Inv-loop μ-loop
-cast-t33 c =
-    let l = c .before .before .before .before .before .before .before .before .before .before .before .before .before in
-    let i = l .loop .inv in
+cast-t35 : tie.Need-cast-t35 Inv-loop μ-loop
+cast-t35 c =
+    let i = c .before .before .before .before .before .before .before .before .before .before .before .before .before .before .loop .inv in
     let R = i .0 .1 in
     omega (arith, few-records R (i .1 _ R))
 
 same-length : tie.Need-same-length Inv-loop μ-loop
 same-length c =
-    let l = c .before .before .before .before .before .before .before .before .before .before .before .before .before in
-    let i = l .loop .inv in
+    let i = c .before .before .before .before .before .before .before .before .before .before .before .before .before .before .loop .inv in
     let R = i .0 .1 in
     c .before .before .before .listing .given ∙ same-length-so-far (i .1 _ R)
 
 returns : tie.Need-returns Inv-loop μ-loop
 returns c S R =
-    told-full R (c .before .before .before .before .before .before .before .before .before .before .before .before .before .loop .inv .1 S R) (c .before .before .before .before .before .before .before .before .before .before .before .before .loop-test .taken) (c .before .before .before .before .before .before .before .before .work .ensures) _ _ (c .enum-told .given .1) (c .before .before .before .before .list .ensures)
+    let G = c .before .before .before .before .before .before .before .before .before .before .before .before .before .before .loop .inv .1 S R in
+    told-full R G (c .before .before .before .before .before .before .before .before .before .before .before .before .before .loop-test .taken) (c .before .before .before .before .before .before .before .before .before .work .ensures) _ _ _ (c .enum-told .given .1)
+    (c .before .before .before .before .list .ensures _ _ (G .holding) (among-watched R _ (G .within)))
 
 enum-known-step : tie.Need-enum-known-step Inv-loop μ-loop
 enum-known-step c = search needs
 
-cast-t34 : tie.Need-cast-t34 Inv-loop μ-loop
-cast-t34 c =
-    let l = c .before .before .before .before .before .before .before .before .before .before .before .before .before .before in
-    let i = l .loop .inv in
+cast-t36 : tie.Need-cast-t36 Inv-loop μ-loop
+cast-t36 c =
+    let i = c .before .before .before .before .before .before .before .before .before .before .before .before .before .before .before .loop .inv in
     let R = i .0 .1 in
-    omega (arith, few-left R (i .1 _ R) (c .before .before .before .before .before .before .before .before .before .before .before .before .before .loop-test .taken) (c .before .before .before .before .before .before .before .before .before .work .ensures) _ _ (c .before .step .given .1) (c .before .before .before .before .before .list .ensures))
+    let G = i .1 _ R in
+    omega (
+      arith,
+      few-left R G (c .before .before .before .before .before .before .before .before .before .before .before .before .before .before .loop-test .taken) (c .before .before .before .before .before .before .before .before .before .before .work .ensures) _ _ _ (c .before .step .given .1)
+          (c .before .before .before .before .before .list .ensures _ _ (G .holding) (among-watched R _ (G .within))),
+    )
 
 same-length-2 : tie.Need-same-length-2 Inv-loop μ-loop
 same-length-2 c =
-    let l = c .before .before .before .before .before .before .before .before .before .before .before .before .before .before in
-    let i = l .loop .inv in
+    let i = c .before .before .before .before .before .before .before .before .before .before .before .before .before .before .before .loop .inv in
     let R = i .0 .1 in
     c .before .before .before .before .listing .given ∙ same-length-so-far (i .1 _ R)
 
 returns-2 : tie.Need-returns-2 Inv-loop μ-loop
 returns-2 c S R =
-    told-crowded R (c .before .before .before .before .before .before .before .before .before .before .before .before .before .before .loop .inv .1 S R) (c .before .before .before .before .before .before .before .before .before .before .before .before .before .loop-test .taken) (c .before .before .before .before .before .before .before .before .before .work .ensures) _ _ (c .before .step .given .1) (c .before .before .before .before .before .list .ensures)
+    let G = c .before .before .before .before .before .before .before .before .before .before .before .before .before .before .before .loop .inv .1 S R in
+    told-crowded R G (c .before .before .before .before .before .before .before .before .before .before .before .before .before .before .loop-test .taken) (c .before .before .before .before .before .before .before .before .before .before .work .ensures) _ _ _ (c .before .step .given .1)
+    (c .before .before .before .before .before .list .ensures _ _ (G .holding) (among-watched R _ (G .within)))
 
 enum-known-step-2 : tie.Need-enum-known-step-2 Inv-loop μ-loop
 enum-known-step-2 c = search needs
 
 add-t : tie.Need-add-t Inv-loop μ-loop
 add-t c =
-    let l = c .before .before .before .before .before .before .before .before .before .before .before .before .before .before in
-    let i = l .loop .inv in
-    let R = i .0 .1 in
-    omega (arith, c .before .before .before .before .before .before .before .before .before .before .before .before .before .loop-test .taken, R .few-ticks)
+    let R = c .before .before .before .before .before .before .before .before .before .before .before .before .before .before .before .loop .inv .0 .1 in
+    omega (arith, c .before .before .before .before .before .before .before .before .before .before .before .before .before .before .loop-test .taken, R .few-ticks)
 
 loop-less : tie.Need-loop-less Inv-loop μ-loop
-loop-less c = omega (arith, c .before .before .before .before .before .before .before .before .before .before .before .before .before .loop-test .taken)
+loop-less c = omega (arith, c .before .before .before .before .before .before .before .before .before .before .before .before .before .before .loop-test .taken)
 
 loop-again : tie.Need-loop-again Inv-loop μ-loop
 loop-again c =
-    let i = c .before .before .before .before .before .before .before .before .before .before .before .before .before .before .loop .inv in
-    (i .0, λ S R. rw add-one (told-next R (i .1 S R) (c .before .before .before .before .before .before .before .before .before .before .before .before .before .loop-test .taken) (c .before .before .before .before .before .before .before .before .before .work .ensures) _ _ (c .before .step2 .given .1) (c .before .before .before .before .before .list .ensures)))
+    let i = c .before .before .before .before .before .before .before .before .before .before .before .before .before .before .before .loop .inv in (
+      i .0,
+      λ S R.
+          let G = i .1 S R in
+          rw add-one
+          (told-next R G (c .before .before .before .before .before .before .before .before .before .before .before .before .before .before .loop-test .taken) (c .before .before .before .before .before .before .before .before .before .before .work .ensures) _ _ _ (c .before .step2 .given .1)
+          (c .before .before .before .before .before .list .ensures _ _ (G .holding) (among-watched R _ (G .within)))),
+    )
 
-cast-t35 : tie.Need-cast-t35 Inv-loop μ-loop
-cast-t35 c =
-    let l = c .before in
-    let i = l .loop .inv in
+cast-t37 : tie.Need-cast-t37 Inv-loop μ-loop
+cast-t37 c =
+    let i = c .before .loop .inv in
     let R = i .0 .1 in
     omega (arith, few-records R (i .1 _ R))
 
 same-length-3 : tie.Need-same-length-3 Inv-loop μ-loop
 same-length-3 c =
-    let l = c .before in
-    let i = l .loop .inv in
+    let i = c .before .loop .inv in
     let R = i .0 .1 in
     same-length-so-far (i .1 _ R)
 
@@ -127,17 +134,17 @@ ticks-spec =
     work-requires
     list-requires
     enum-told
-    cast-t33
+    cast-t35
     same-length
     returns
     enum-known-step
-    cast-t34
+    cast-t36
     same-length-2
     returns-2
     enum-known-step-2
     add-t
     loop-less
     loop-again
-    cast-t35
+    cast-t37
     same-length-3
     returns-3)

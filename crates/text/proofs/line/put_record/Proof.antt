@@ -1,4 +1,4 @@
--- `text::line::put_record` meets its contract: tick, node, value and the line's end, one after another. Assumes nothing.
+-- `text::line::put_record` meets its contract: tick, node, value, end and a newline, one after another. Assumes nothing.
 use borrow.Author.Needs.{needs}
 use mathlib.Core.Path.{subst}
 use Rattle.lent.specs.Lent.{Prints}
@@ -28,6 +28,9 @@ put-requires c κs = search needs
 put-requires-2 : tie.Need-put-requires-2
 put-requires-2 c κs = search needs
 
+put-field-requires-2 : tie.Need-put-field-requires-2
+put-field-requires-2 c κs = search needs
+
 put-requires-3 : tie.Need-put-requires-3
 put-requires-3 c κs = search needs
 
@@ -36,16 +39,20 @@ same-length c = search needs
 
 returns : tie.Need-returns
 returns c =
-    let last = c .before .before in
-    let node = last .before .before .before .before .before .before .before .before .before .before .before .before in
-    let read = node .before .before .before .before .before .before in
+    let last = c .before .before .put3 in
+    let end = c .before .before .before .before .before .before .put-field2 in
+    let value = c .before .before .before .before .before .before .before .before .before .before in
+    let node = c .before .before .before .before .before .before .before .before .before .before .before .before .before .before .before .before .before .before .put-field in
+    let read = c .before .before .before .before .before .before .before .before .before .before .before .before .before .before .before .before .before .before .before .before .before .before .before .before in
     let a = read .before .before .before .before .before .args in
     subst
-    (λ r. Prints (recordLine r) (a .text .now) (a .at) (last .put3 .last .0) (last .put3 .result))
+    (λ r. Prints (recordLine r) (a .text .now) (a .at) (last .last .0) (last .result))
     (read .before .before .record-at .ensures)
     (prints-then
-    (prints-then (node .before .before .before .before .put-decimal .ensures) (node .put-field .ensures))
-    (prints-then (last .before .before .before .before .before .before .before .before .put .ensures) (prints-then (rw (read .value-byte .ensures) at (last .before .before .before .before .put2 .ensures)) (last .put3 .ensures))))
+    (prints-then
+    (prints-then (c .before .before .before .before .before .before .before .before .before .before .before .before .before .before .before .before .before .before .before .before .before .before .put-decimal .ensures) (node .ensures))
+    (prints-then (value .before .before .before .before .put .ensures) (prints-then (rw (read .value-byte .ensures) at (value .put2 .ensures)) (end .ensures))))
+    (last .ensures))
 
 pub put-record-spec : {M : Type 1} → statement M
 put-record-spec =
@@ -58,6 +65,7 @@ put-record-spec =
     put-field-requires
     put-requires
     put-requires-2
+    put-field-requires-2
     put-requires-3
     same-length
     returns)

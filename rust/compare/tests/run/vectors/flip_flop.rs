@@ -4,6 +4,7 @@
 //! document's value at time t is cell t: its `nand1` at time t reads its inputs at t - 3, and its
 //! `nand2` puts X:X:X before what it computes.
 
+use generate::ends::ended;
 use generate::sheets::*;
 use plain::{Sheet, INPUT, UNKNOWN};
 
@@ -15,7 +16,7 @@ const Q: u8 = 2;
 const QB: u8 = 3;
 
 /// The Flip-Flop with events for Set and Reset.
-fn flip_flop(drive: &[Record]) -> Sheet {
+fn flip_flop(drive: &[Change]) -> Sheet {
     let modules = [gate(NAND, [SET, QB], Q, 3), gate(NAND, [RESET, Q], QB, 3)];
     let nodes = [INPUT, INPUT, UNKNOWN, UNKNOWN];
     sheet(&nodes, &modules, drive, &[SET, RESET, Q, QB])
@@ -34,7 +35,7 @@ fn letters(records: &[Record], node: u8, horizon: u32) -> String {
 }
 
 /// An event at tick 0 and one at each change of a wire that is given letter by letter.
-fn events(node: u8, letters: &str) -> Vec<Record> {
+fn events(node: u8, letters: &str) -> Vec<Change> {
     let value = |letter| u8::from(letter == 'H');
     let mut before = None;
     let mut events = Vec::new();
@@ -47,7 +48,7 @@ fn events(node: u8, letters: &str) -> Vec<Record> {
 }
 
 /// Two wires' events together, in order.
-fn both(set: &str, reset: &str) -> Vec<Record> {
+fn both(set: &str, reset: &str) -> Vec<Change> {
     let mut events = [events(SET, set), events(RESET, reset)].concat();
     events.sort_unstable();
     events
@@ -135,7 +136,7 @@ fn the_tuples_of_section_1_5() {
 
 /// Section 1.6, Fig. 1.7: "set = [ At 0 Set L, At 7 Set H, At 28 Set L ]" and
 /// "reset = [ At 0 Reset H, At 14 Reset L, At 21 Reset H ]", merged.
-const EVENTS: [Record; 6] = [
+const EVENTS: [Change; 6] = [
     (0, SET, 0),
     (0, RESET, 1),
     (7, SET, 1),
@@ -147,7 +148,7 @@ const EVENTS: [Record; 6] = [
 /// Section 1.6, what the event driven simulator prints: "main = [At 0 Set L, At 0 Reset H, At 3 Q
 /// H, At 6 Qb L, At 7 Set H, At 14 Reset L, At 17 Qb H, At 20 Q L, At 21 Reset H, At 28 Set L,
 /// At 31 Q H, At 34 Qb L]".
-const MAIN: [Record; 12] = [
+const MAIN: [Change; 12] = [
     (0, SET, 0),
     (0, RESET, 1),
     (3, Q, 1),
@@ -166,8 +167,8 @@ const MAIN: [Record; 12] = [
 fn the_events_of_section_1_6() {
     let mut records = listed(&flip_flop(&EVENTS), 100, "events");
     // A listing also has each node's value at tick 0; the document's begins undefined.
-    let undefined = [(0, Q, UNKNOWN), (0, QB, UNKNOWN)];
+    let undefined = [(0, Q, UNKNOWN, 3), (0, QB, UNKNOWN, 6)];
     assert_eq!(records[2..4], undefined);
     records.drain(2..4);
-    assert_eq!(records, MAIN);
+    assert_eq!(records, ended(&MAIN, 100));
 }

@@ -22,7 +22,7 @@ const Y: u8 = 4;
 /// All values but Z.
 const ANY_VALUE: u8 = 0b0111;
 
-fn storage_cell(drive: &[Record], watched: &[u8]) -> Sheet {
+fn storage_cell(drive: &[Change], watched: &[u8]) -> Sheet {
     let modules = [
         gate(CLOCKED_INVERTER, [A, PHI], B, 17),
         memory(ANY_VALUE, [B, B], C, 0),
@@ -35,7 +35,7 @@ fn storage_cell(drive: &[Record], watched: &[u8]) -> Sheet {
 /// What the document derives from the three, in section II's code: "when either a or phi changes,
 /// if phi is 1, schedule an event at the same time to change a_state to the current value of a.
 /// Whenever a_state changes, schedule an event 2.2 later to drive y". That is one memory.
-fn derived_cell(drive: &[Record]) -> Sheet {
+fn derived_cell(drive: &[Change]) -> Sheet {
     let y = 2;
     let modules = [memory(0b0010, [A, PHI], y, 22)];
     sheet(&[INPUT, INPUT, UNKNOWN], &modules, drive, &[y])
@@ -53,16 +53,16 @@ fn a_run_worked_out_by_hand() {
         (40, PHI, 1),
     ];
     let expected = [
-        (0, B, NONE),
-        (0, C, NONE),
-        (0, Y, UNKNOWN),
-        (27, B, LOW),
-        (27, C, LOW),
-        (32, Y, HIGH),
-        (37, B, NONE),
-        (57, B, HIGH),
-        (57, C, HIGH),
-        (62, Y, LOW),
+        (0, B, NONE, 27),
+        (0, C, NONE, 27),
+        (0, Y, UNKNOWN, 32),
+        (27, B, LOW, 37),
+        (27, C, LOW, 57),
+        (32, Y, HIGH, 62),
+        (37, B, NONE, 57),
+        (57, B, HIGH, 100),
+        (57, C, HIGH, 100),
+        (62, Y, LOW, 100),
     ];
     let sheet = storage_cell(&drive, &[B, C, Y]);
     assert_eq!(listed(&sheet, 100, "storage cell"), expected);
@@ -83,19 +83,19 @@ fn an_unknown_clock_worked_out_by_hand() {
         (50, PHI, 1),
     ];
     let expected = [
-        (0, B, NONE),
-        (0, C, NONE),
-        (0, Y, UNKNOWN),
-        (27, B, LOW),
-        (27, C, LOW),
-        (32, Y, HIGH),
-        (37, B, UNKNOWN),
-        (37, C, UNKNOWN),
-        (42, Y, UNKNOWN),
-        (57, B, NONE),
-        (67, B, HIGH),
-        (67, C, HIGH),
-        (72, Y, LOW),
+        (0, B, NONE, 27),
+        (0, C, NONE, 27),
+        (0, Y, UNKNOWN, 32),
+        (27, B, LOW, 37),
+        (27, C, LOW, 37),
+        (32, Y, HIGH, 42),
+        (37, B, UNKNOWN, 57),
+        (37, C, UNKNOWN, 67),
+        (42, Y, UNKNOWN, 72),
+        (57, B, NONE, 67),
+        (67, B, HIGH, 100),
+        (67, C, HIGH, 100),
+        (72, Y, LOW, 100),
     ];
     let sheet = storage_cell(&drive, &[B, C, Y]);
     assert_eq!(listed(&sheet, 100, "unknown clock"), expected);
@@ -154,14 +154,14 @@ fn steps(values: impl Iterator<Item = u8>) -> Vec<Step> {
     steps
 }
 
-fn drive(a: &[u8], phi: &[u8]) -> Vec<Record> {
+fn drive(a: &[u8], phi: &[u8]) -> Vec<Change> {
     let events = |node, timeline: &[u8]| {
         let steps = steps(timeline.iter().copied());
         steps
             .into_iter()
             .map(move |(tick, value)| (tick, node, value))
     };
-    let mut drive: Vec<Record> = events(A, a).chain(events(PHI, phi)).collect();
+    let mut drive: Vec<Change> = events(A, a).chain(events(PHI, phi)).collect();
     drive.sort_unstable();
     drive
 }
@@ -177,7 +177,7 @@ fn y_by(equation: fn(&[u8], &[u8], usize) -> u8, a: &[u8], phi: &[u8]) -> Vec<St
 /// What a run lists of the one node that is watched.
 fn y_of(sheet: &Sheet, whence: &str) -> Vec<Step> {
     let records = listed(sheet, HORIZON, whence).into_iter();
-    records.map(|(tick, _, value)| (tick, value)).collect()
+    records.map(|(tick, _, value, _)| (tick, value)).collect()
 }
 
 #[test]

@@ -25,16 +25,16 @@ fn a_and_not_a_shows_no_glitch() {
     // "Let the value of the input a change to 0 at time 1."
     let drive = [(0, A, 1), (1, A, 0), (2, A, 1), (5, A, 0)];
     let expected = [
-        (0, A, 1),
-        (0, B, 0),
-        (0, D, 0),
-        (0, CAUGHT, UNKNOWN),
-        (1, A, 0),
-        (1, B, 1),
-        (2, A, 1),
-        (2, B, 0),
-        (5, A, 0),
-        (5, B, 1),
+        (0, A, 1, 1),
+        (0, B, 0, 1),
+        (0, D, 0, 10),
+        (0, CAUGHT, UNKNOWN, 10),
+        (1, A, 0, 2),
+        (1, B, 1, 2),
+        (2, A, 1, 5),
+        (2, B, 0, 5),
+        (5, A, 0, 10),
+        (5, B, 1, 10),
     ];
     let orders = [
         [0, 1, 2],
