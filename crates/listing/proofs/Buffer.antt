@@ -1,22 +1,21 @@
 -- The listing as records are written into it, one after the other: records written after others stand as if all had been written at once.
 -- By the stores of the bytes, one by one. Assumes nothing.
 use mathlib.Core.List.{List, [], _∷_, _++_}
-use mathlib.Core.Logic.{_↔_}
 use mathlib.Core.Path.{_≡_, refl, sym, ap, _∙_}
 use Prim.Native.Nat.{ℕ, zero, suc, _+_, _*_, _<_, _≤_}
 use native.Mathlib.Nat.{add-zero, zero-add, le-of-suc-le-suc, not-suc-le-zero}
 use native.Mathlib.Omega.{arith}
 use lib.ListN.{length, drop, set, length-append, length-set}
-use lib.Seq.{sets, sets-eq, length-sets, paste-zero}
+use lib.Seq.{sets, sets-eq, length-sets}
 use Rattle.format.specs.Encode.{longBytes, allBytes}
 use Rattle.format.proofs.AllBytes.{allBytes-append, length-allBytes}
 use Rattle.network.specs.Ends.{Ended}
-use Rattle.network.specs.Buffer.{recordSize, recordBytes, room, bufferAfter}
+use Rattle.network.specs.Buffer.{recordSize, recordBytes, bufferAfter}
 use Rattle.listing.specs.Record.{put, written, endWritten}
 use Rattle.listing.proofs.LastRecords.{anotherEnd, another-length}
 
 -- stores after stores
-pub sets-append {ℓ} : {A : Type ℓ} (l : List A) (i : ℕ) (vs ws : List A) → sets (sets l i vs) (i + length vs) ws ≡ sets l i (vs ++ ws)
+sets-append {ℓ} : {A : Type ℓ} (l : List A) (i : ℕ) (vs ws : List A) → sets (sets l i vs) (i + length vs) ws ≡ sets l i (vs ++ ws)
 sets-append l i [] ws = rw add-zero
 sets-append l i (v ∷ vs) ws = rw next (sets-append _ (suc i) vs ws)
   where
@@ -27,7 +26,7 @@ bytes-length : (records : List Ended) → length (allBytes recordBytes records) 
 bytes-length = length-allBytes recordSize recordBytes (λ r. refl)
 
 -- as stores
-pub written-sets : (n : ℕ) (records : List Ended) (buffer : List ℕ) → recordSize * (n + length records) ≤ length buffer
+written-sets : (n : ℕ) (records : List Ended) (buffer : List ℕ) → recordSize * (n + length records) ≤ length buffer
     → sets buffer (recordSize * n) (allBytes recordBytes records) ≡ written n records buffer
 written-sets n records buffer fits =
     let size = bytes-length records in
@@ -38,7 +37,7 @@ written-sets n records buffer fits =
 put-sets : (p : ℕ) (bytes listing : List ℕ) → p + length bytes ≤ length listing → put p bytes listing ≡ sets listing p bytes
 put-sets p bytes listing fits = sym (sets-eq bytes listing p fits)
 
-pub put-length : (p : ℕ) (bytes listing : List ℕ) → p + length bytes ≤ length listing → length (put p bytes listing) ≡ length listing
+put-length : (p : ℕ) (bytes listing : List ℕ) → p + length bytes ≤ length listing → length (put p bytes listing) ≡ length listing
 put-length p bytes listing fits = ap length (put-sets p bytes listing fits) ∙ length-sets listing p bytes
 
 -- a record by its parts
@@ -64,7 +63,7 @@ record-stores n r listing fits =
 written-length : (n : ℕ) (records : List Ended) (buffer : List ℕ) → recordSize * (n + length records) ≤ length buffer → length (written n records buffer) ≡ length buffer
 written-length n records buffer fits = sym (ap length (written-sets n records buffer fits)) ∙ length-sets buffer (recordSize * n) (allBytes recordBytes records)
 
-pub written-more : (n : ℕ) (records more : List Ended) (buffer now : List ℕ) → recordSize * (n + length records + length more) ≤ length buffer
+written-more : (n : ℕ) (records more : List Ended) (buffer now : List ℕ) → recordSize * (n + length records + length more) ≤ length buffer
     → now ≡ written n records buffer → written (n + length records) more now ≡ written n (records ++ more) buffer
 written-more n records more buffer now fits is =
     sym (written-sets (n + length records) more now (rw (is, written-length n records buffer before) fits))
@@ -78,10 +77,6 @@ written-more n records more buffer now fits is =
 
     place : recordSize * (n + length records) ≡ recordSize * n + length (allBytes recordBytes records)
     place = omega (arith, bytes-length records)
-
-pub written-none : (n : ℕ) (buffer : List ℕ) → buffer ≡ written n [] buffer
-unfolding allBytes
-written-none n buffer = rw add-zero (paste-zero buffer (recordSize * n) [] ∙ rw add-zero)
 
 -- The buffer of a run is what the records make of it from its start on.
 after : (records : List Ended) (buffer : List ℕ) → bufferAfter records buffer ≡ written 0 records buffer
@@ -132,7 +127,3 @@ end-buffer records buffer n end fits h =
     sym (sets-eq (longBytes end) (bufferAfter records buffer) (recordSize * n + 6) (omega (arith, buffer-length records buffer fits)))
     ∙ end-bytes records (drop (recordSize * length records) buffer) n end h
     ∙ rw (another-length n end records)
-
--- a buffer takes as many records as it has room for
-pub fits-room : (n bytes : ℕ) → recordSize * n ≤ bytes ↔ n ≤ room bytes
-fits-room n bytes = omega arith

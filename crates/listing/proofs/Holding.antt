@@ -1,11 +1,9 @@
 -- The listing between ticks, kept by what is written: a record's end put right, a record added, and the ends of what lasts. Assumes nothing.
-use borrow.Author.Tests.{eq-eqb, ne-eqb}
+use borrow.Author.Tests.{eq-eqb}
 use mathlib.Core.Bool.{Bool, true, false}
-use mathlib.Core.List.{List, [], _∷_, _++_, List·Memᴰ, List·Memᴰ·head, List·Memᴰ·tail, List·Memᴰ·cases-cons}
-use mathlib.Core.Logic.{_⊎_, inl, inr}
+use mathlib.Core.List.{List, [], _∷_, _++_, List·Memᴰ}
 use mathlib.Core.Path.{_≡_, refl, sym, ap, _∙_, subst}
 use native.Mathlib.Decide.{ℕ-discrete}
-use native.Mathlib.Numerals.{add-one}
 use native.Mathlib.Omega.{arith}
 use Prim.Native.Nat.{ℕ, zero, suc, _+_, _*_, _<_, _≤_}
 use lib.Dec.{eqb}
@@ -42,8 +40,7 @@ nothing-yet buffer horizon =
       counted = refl;
       fits = omega arith;
       bytes = sym (buffer-none buffer);
-      places-size = length-replicate {A = ℕ} mostNodes 0;
-      placed = λ v h. subst (Last v []) (sym (getD-replicate {A = ℕ} mostNodes v 0 0 h)) nowhere;
+      placed = record { size = length-replicate {A = ℕ} mostNodes 0; last = λ v h. subst (Last v []) (sym (getD-replicate {A = ℕ} mostNodes v 0 0 h)) nowhere };
     }
 
 module _ {buffer : List ℕ} {horizon : ℕ} {records : List Record} {n : ℕ} {listing places : List ℕ} (H : Holding buffer horizon records n listing places) where
@@ -52,7 +49,7 @@ module _ {buffer : List ℕ} {horizon : ℕ} {records : List Record} {n : ℕ} {
 
   -- the place of a node's last record is one in the listing
   pub place-known : (v : ℕ) → v < mostNodes → recordSize * getD places v 0 ≤ length listing
-  place-known v h = omega (arith, last-known (H .placed v h), H .fits, holding-length)
+  place-known v h = omega (arith, last-known (H .placed .last v h), H .fits, holding-length)
 
   -- one record more, which ends the value before it
   pub one-more : (r : Record) → r .node < mostNodes → recordSize * (n + 1) ≤ length listing
@@ -67,8 +64,7 @@ module _ {buffer : List ℕ} {horizon : ℕ} {records : List Record} {n : ℕ} {
             ap (λ n. written n (record { start = r; end = horizon } ∷ []) ended) (H .counted ∙ sym count)
             ∙ buffer-more front (record { start = r; end = horizon } ∷ []) buffer ended (omega (arith, room, H .counted, holding-length, count)) is
             ∙ ap (λ rs. bufferAfter rs buffer) (sym (ends-append (λ v. horizon) records (r ∷ [])));
-        places-size = length-set places (r .node) (n + 1) ∙ H .places-size;
-        placed = λ v h. at v h (ℕ-discrete v (r .node));
+        placed = record { size = length-set places (r .node) (n + 1) ∙ H .placed .size; last = λ v h. at v h (ℕ-discrete v (r .node)) };
       }
     where
       front : List Ended
@@ -82,9 +78,9 @@ module _ {buffer : List ℕ} {horizon : ℕ} {records : List Record} {n : ℕ} {
 
       at : (v : ℕ) → v < mostNodes → Dec (v ≡ r .node) → Last v (records ++ r ∷ []) (getD (set places (r .node) (n + 1)) v 0)
       at v h (yes e) =
-          subst (Last v (records ++ r ∷ [])) (sym (ap (λ v. getD (set places (r .node) (n + 1)) v 0) e ∙ getD-set-same places (r .node) (n + 1) 0 (omega (arith, small, H .places-size)) ∙ number))
-          (last-new (H .placed v h) r (sym e))
-      at v h (no d) = subst (Last v (records ++ r ∷ [])) (sym (getD-set-other places (r .node) v (n + 1) 0 d)) (last-still (H .placed v h) r (λ e. d (sym e)))
+          subst (Last v (records ++ r ∷ [])) (sym (ap (λ v. getD (set places (r .node) (n + 1)) v 0) e ∙ getD-set-same places (r .node) (n + 1) 0 (omega (arith, small, H .placed .size)) ∙ number))
+          (last-new (H .placed .last v h) r (sym e))
+      at v h (no d) = subst (Last v (records ++ r ∷ [])) (sym (getD-set-other places (r .node) v (n + 1) 0 d)) (last-still (H .placed .last v h) r (λ e. d (sym e)))
 
 -- the ends that are given once the first k of these nodes have theirs
 abbrev pub endsFor : List ℕ → ℕ → ℕ → ℕ → ℕ → ℕ

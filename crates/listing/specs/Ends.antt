@@ -31,11 +31,15 @@ pub data Last (v : ℕ) : List Record → ℕ → Type 0 where
   here : {r : Record} {rs : List Record} → r .node ≡ v → Last v rs 0 → Last v (r ∷ rs) 1
   later : {r : Record} {rs : List Record} {n : ℕ} → Last v rs (suc n) → Last v (r ∷ rs) (suc (suc n))
 
--- The listing between ticks: so many records are written into the buffer, values that still last end at the horizon, and each node's last
--- record has its place.
+-- each node's last record has its place
+pub record Placed (records : List Record) (places : List ℕ) : Type 0 where
+  pub size : length places ≡ mostNodes
+  pub last : (v : ℕ) → v < mostNodes → Last v records (getD places v 0)
+
+-- The listing between ticks: so many records are written into the buffer, values that still last end at the horizon, and the places are
+-- theirs.
 pub record Holding (buffer : List ℕ) (horizon : ℕ) (records : List Record) (n : ℕ) (listing places : List ℕ) : Type 0 where
   pub counted : n ≡ length records
   pub fits : recordSize * length records ≤ length buffer
   pub bytes : listing ≡ bufferAfter (withEnds (λ v. horizon) records) buffer
-  pub places-size : length places ≡ mostNodes
-  pub placed : (v : ℕ) → v < mostNodes → Last v records (getD places v 0)
+  pub placed : Placed records places

@@ -9,7 +9,7 @@ ghost use mathlib.Core.List.{List, [], _∷_, _++_, List·Memᴰ};
 ghost use mathlib.Core.Path.{_≡_};
 ghost use Prim.Native.Nat.{ℕ, _+_, _*_, _≤_};
 ghost use lib.ListN.{length, take};
-ghost use Rattle.sheet.specs.Limits.{mostNodes, mostWatched};
+ghost use Rattle.sheet.specs.Limits.{mostWatched};
 ghost use Rattle.network.specs.Listing.{Record};
 ghost use Rattle.network.specs.Buffer.{recordSize, bufferAfter};
 ghost use Rattle.listing.specs.Ends.{withEnds, endAt, Last, Holding};

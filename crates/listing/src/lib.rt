@@ -97,6 +97,7 @@ pub fn list(
 {
     let records = count_fresh(watched, count, values, &*shown);
     let room = listing.len() / RECORD_SIZE;
+    let after = t + 1;
     if room - n < records {
         end_all(listing, watched, count, &*places, t);
         return Step::Full;
@@ -114,7 +115,7 @@ pub fn list(
         records,
     );
     if PENDING_LIMIT < pending {
-        end_all(listing, watched, count, &*places, t + 1);
+        end_all(listing, watched, count, &*places, after);
         return Step::Crowded(written);
     }
     Step::Next(written)

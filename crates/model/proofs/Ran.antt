@@ -10,9 +10,9 @@ use Rattle.sheet.specs.Sheet.{Sheet}
 use Rattle.sheet.specs.WorkingOrder.{workingOrder}
 use Rattle.format.specs.Accepted.{Accepted}
 use Rattle.network.specs.Buffer.{room}
-use Rattle.network.specs.Ends.{Ended, endedOf, endedListing}
+use Rattle.network.specs.Ends.{endedOf, endedListing}
 use Rattle.network.specs.Listing.{listing}
-use Rattle.network.specs.Run.{Written, wrote, cellsOf, ranSheet}
+use Rattle.network.specs.Run.{wrote, cellsOf, ranSheet}
 use Rattle.network.specs.RunConditions.{Passed}
 use Rattle.network.proofs.Outcome as outcome
 use Rattle.network.proofs.Runs.{satisfied}

@@ -15,7 +15,7 @@ use Rattle.sheet.specs.Outcome.{finished, refused}
 use Rattle.sheet.specs.Sheet.{Sheet, nodeCount, moduleCount, outputOf}
 use Rattle.network.specs.Buffer.{room}
 use Rattle.network.specs.Ends.{Ended, endedOf, endedListing}
-use Rattle.network.specs.Listing.{Record, changes, recordOf, recordsAt, listing, pendingOf, pending}
+use Rattle.network.specs.Listing.{changes, recordOf, recordsAt, listing, pendingOf, pending}
 use Rattle.network.specs.Run.{TickRow, tickRows, wrote, firstTick, writtenOf}
 use Rattle.network.specs.Timeline.{Cells}
 use Rattle.sheet.proofs.Each.{each-same}

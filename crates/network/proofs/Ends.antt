@@ -2,7 +2,6 @@
 -- Assumes nothing.
 use lib.Dec.{T, T-not, eqb, eqb-refl, eqb→eq}
 use mathlib.Core.Bool.{Bool, true, false, not}
-use mathlib.Core.List.{map}
 use mathlib.Core.Path.{_≡_, refl, sym, ap, _∙_, subst}
 use native.Mathlib.Decide.{ℕ-discrete, decLt}
 use native.Mathlib.Nat.{add-zero, add-suc}

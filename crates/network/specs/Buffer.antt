@@ -1,7 +1,7 @@
 -- Document 01, "The listing", with document 02's W-204: a record's bytes, how many records a buffer takes, and what it holds once they are
 -- written.
 -- Nothing else knows a record's size.
-use mathlib.Core.List.{List, [], _∷_, _++_}
+use mathlib.Core.List.{List, _∷_, _++_}
 use Prim.Native.Nat.{ℕ, _+_, _*_, _/_}
 use lib.ListN.{length, drop}
 use Rattle.sheet.specs.Bytes.{byteAt, longAt}

@@ -11,6 +11,9 @@ use Rattle.listing.proofs.list.Tie as tie
 count-fresh-requires : tie.Need-count-fresh-requires
 count-fresh-requires c κs = search needs
 
+add-after : tie.Need-add-after
+add-after c = search needs
+
 sub-if1 : tie.Need-sub-if1
 sub-if1 c =
     let H = c .before .before .before .pre .4 .2 in
@@ -28,7 +31,7 @@ returns c buffer before H among =
     let counted = c .before .before .before .before .before .before .count-fresh .ensures (a .t) in
     let full = c .before .before .before .before .before .if1 .taken in (
       omega (arith, full, counted, H .counted, H .fits, holding-length H),
-      record { counted = refl; bytes = c .before .before .end-all .ensures buffer (a .horizon) before (a .n) H among },
+      record { counted = refl; bytes = c .before .before .end-all .ensures buffer (a .horizon) before (a .n) H among; now-shown = refl; placed = H .placed },
     )
 
 write-requires : tie.Need-write-requires
@@ -38,9 +41,6 @@ write-requires c κs =
     let H = p .4 .2 in
     let counted = c .before .before .before .before .count-fresh .ensures (start .args .t) in
     (p .0, p .1, p .2, counted, omega (arith, c .before .before .before .if1 .left, H .counted, H .fits, holding-length H), p .4)
-
-add-end-all : tie.Need-add-end-all
-add-end-all c = search needs
 
 end-all-requires-2 : tie.Need-end-all-requires-2
 end-all-requires-2 c κs =
@@ -57,7 +57,8 @@ returns-2 c buffer before H among =
     let a = start .args in
     let counted = c .before .before .before .before .before .before .before .before .before .before .before .before .before .count-fresh .ensures (a .t) in
     let room = c .before .before .before .before .before .before .before .before .before .before .before .before .if1 .left in
-    let held = c .before .before .before .before .before .before .before .before .write .ensures buffer before H .holding in (
+    let done = c .before .before .before .before .before .before .before .before .write .ensures buffer before H in
+    let held = done .holding in (
       omega (arith, room, counted, H .counted, H .fits, holding-length H),
       c .before .before .before .before .before .if2 .taken,
       record {
@@ -65,6 +66,8 @@ returns-2 c buffer before H among =
         bytes =
             rw (← add-one)
             (c .before .before .end-all2 .ensures buffer (a .horizon) _ _ held (all-among (a .values .now) (a .shown .now) (a .t) _ before among));
+        now-shown = done .now-shown;
+        placed = held .placed;
       },
     )
 
@@ -83,12 +86,12 @@ list-spec =
     tie.close
     (tie.spec
     count-fresh-requires
+    add-after
     sub-if1
     end-all-requires
     same-length
     returns
     write-requires
-    add-end-all
     end-all-requires-2
     same-length-2
     returns-2

@@ -1,11 +1,11 @@
 -- `listing::ends::end_all` meets its contract. The loop's invariant: the last records of the nodes passed have the end. Assumes nothing.
 use borrow.Author.Needs.{needs}
 use mathlib.Core.List.{List}
-use mathlib.Core.Path.{_≡_, refl, sym, ap, _∙_, subst}
-use Prim.Native.Nat.{ℕ, _<_, _≤_, _-_}
+use mathlib.Core.Path.{_≡_, refl, ap, _∙_}
+use Prim.Native.Nat.{ℕ, _≤_, _-_}
 use native.Mathlib.Numerals.{add-one}
 use native.Mathlib.Omega.{arith}
-use lib.ListN.{length, getD}
+use lib.ListN.{length}
 use Rattle.network.specs.Listing.{Record}
 use Rattle.network.specs.Buffer.{bufferAfter}
 use Rattle.listing.specs.Ends.{withEnds, Holding}
@@ -59,7 +59,7 @@ loop-again c =
       ended .kept .0 ∙ loop .inv .1,
       λ buffer horizon records count H.
           rw (add-one, ← wide .ensures .0)
-          (ended .ensures buffer (endsFor (a .watched .now) (a .end) horizon (loop .k)) records (wide .result) (H .fits) (loop .inv .2 buffer horizon records count H) (H .placed (wide .result) (omega arith))),
+          (ended .ensures buffer (endsFor (a .watched .now) (a .end) horizon (loop .k)) records (wide .result) (H .fits) (loop .inv .2 buffer horizon records count H) (H .placed .last (wide .result) (omega arith))),
     )
 
 same-length : tie.Need-same-length Inv-loop μ-loop

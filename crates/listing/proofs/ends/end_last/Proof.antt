@@ -1,6 +1,6 @@
 -- `listing::ends::end_last` meets its contract: a node without a record has no end to be put right. Assumes nothing.
 use borrow.Author.Needs.{needs}
-use mathlib.Core.Path.{_≡_, sym, ap, _∙_, subst}
+use mathlib.Core.Path.{_≡_, _∙_, subst}
 use Prim.Native.Nat.{suc, _-_}
 use native.Mathlib.Omega.{arith}
 use Rattle.listing.specs.Ends.{Last}

@@ -1,6 +1,5 @@
 -- `listing::ends::write_value` meets its contract: the node's last record gets its end, and then the new one is written and remembered. Assumes nothing.
 use borrow.Author.Needs.{needs}
-use mathlib.Core.Path.{_≡_, sym, ap, _∙_, subst}
 use native.Mathlib.Omega.{arith}
 use lib.ListN.{getD}
 use Rattle.network.specs.Listing.{Record}
@@ -45,7 +44,7 @@ returns c buffer records H =
     let r : Record = record { tick = a .t; node = a .node; value = a .value } in
     let wide = c .before .before .before .before .before .before .before .before .before .wide in
     let ended = c .before .before .before .before .before .before .end-last in
-    let here : Last (a .node) records (getD (a .places .now) (wide .result) 0) = rw (wide .ensures .0) (H .placed (a .node) (omega arith)) in
+    let here : Last (a .node) records (getD (a .places .now) (wide .result) 0) = rw (wide .ensures .0) (H .placed .last (a .node) (omega arith)) in
     rw (wide .ensures .0, c .before .before .write-record .ensures)
     (one-more H r (omega arith) (start .pre .1) _ (ended .ensures buffer (λ v. a .horizon) records (a .node) (H .fits) (H .bytes) here))
 
