@@ -1,8 +1,7 @@
 -- The records of a tick and what is then shown, one watched node after the other. Assumes nothing.
 use borrow.Author.Tests.{eq-eqb, ne-eqb}
 use mathlib.Core.Bool.{Bool, true, false}
-use mathlib.Core.List.{List, [], _∷_, _++_, append-nil, List·Memᴰ, List·Memᴰ·head, List·Memᴰ·tail, List·Memᴰ·not-nil, List·Memᴰ·cases-cons, List·Memᴰ·append-cases}
-use mathlib.Core.Logic.{⊎-elim}
+use mathlib.Core.List.{List, [], _∷_, _++_, append-nil}
 use mathlib.Core.Path.{_≡_, refl, ap}
 use Prim.Native.Nat.{ℕ, suc, _<_, _≤_}
 use native.Mathlib.Omega.{arith}
@@ -22,22 +21,7 @@ before-few : (b : Bool) (r : Record) (rs : List Record) (n : ℕ) → length rs 
 before-few true r rs n h = omega arith
 before-few false r rs n h = omega arith
 
--- a record, or none, of a node before others
-before-among : (b : Bool) (r q : Record) (rs : List Record) (vs : List ℕ) → List·Memᴰ q (if b then rs else r ∷ rs) → (List·Memᴰ q rs → List·Memᴰ (q .node) vs) → List·Memᴰ (q .node) (r .node ∷ vs)
-before-among true r q rs vs m rest = List·Memᴰ·tail (rest m)
-before-among false r q rs vs m rest = ⊎-elim (λ e. List·Memᴰ·head (ap (λ (r : Record). r .node) e)) (λ m. List·Memᴰ·tail (rest m)) (List·Memᴰ·cases-cons m)
-
 module _ (values shown : List ℕ) where
-  -- the records of a tick, after others, are of watched nodes
-  fresh-among : (t : ℕ) (vs : List ℕ) (r : Record) → List·Memᴰ r (fresh t values shown vs) → List·Memᴰ (r .node) vs
-  unfolding fresh
-  fresh-among t [] r m = absurd (List·Memᴰ·not-nil m)
-  fresh-among t (v ∷ vs) r m = before-among (eqb (getD values v 0) (getD shown v 0)) (record { tick = t; node = v; value = getD values v 0 }) r _ vs m (fresh-among t vs r)
-
-  pub all-among : (t : ℕ) (vs : List ℕ) (before : List Record) → ((r : Record) → List·Memᴰ r before → List·Memᴰ (r .node) vs)
-      → (r : Record) → List·Memᴰ r (before ++ fresh t values shown vs) → List·Memᴰ (r .node) vs
-  all-among t vs before among r m = ⊎-elim (among r) (fresh-among t vs r) (List·Memᴰ·append-cases before m)
-
   fresh-append : (t : ℕ) (vs ws : List ℕ) → fresh t values shown (vs ++ ws) ≡ fresh t values shown vs ++ fresh t values shown ws
   unfolding fresh
   fresh-append t [] ws = refl

@@ -26,11 +26,11 @@ shown-still t values shown (v ∷ vs) e = at (eqb (getD values v 0) (getD shown 
     at false q rest e = absurd (omega arith)
 
 -- and the listing as it is
-pub nothing-written : (t : ℕ) {buffer : List ℕ} {horizon n : ℕ} {before : List Record} {listing values shown watched places : List ℕ} → length (fresh t values shown watched) ≡ 0 → length shown ≡ 256
-    → Holding buffer horizon before n listing places → RecordsWritten buffer horizon before (fresh t values shown watched) values shown watched n listing shown places
-nothing-written t {buffer} {horizon} {n} {before} {listing} {values} {shown} {watched} {places} e size h =
+pub nothing-written : (t : ℕ) {buffer : List ℕ} {n : ℕ} {before : List Record} {listing values shown watched places : List ℕ} → length (fresh t values shown watched) ≡ 0 → length shown ≡ 256
+    → Holding buffer before n listing places → RecordsWritten buffer before listing shown places t watched values n listing shown places
+nothing-written t {buffer} {n} {before} {listing} {values} {shown} {watched} {places} e size h =
     record { holding = same (fresh t values shown watched) e; now-shown = sym (shown-still t values shown watched e); shown-size = size }
   where
-    same : (records : List Record) → length records ≡ 0 → Holding buffer horizon (before ++ records) n listing places
+    same : (records : List Record) → length records ≡ 0 → Holding buffer (before ++ records) n listing places
     same [] z = rw append-nil h
     same (r ∷ rs) z = absurd (omega arith)

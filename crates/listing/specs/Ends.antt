@@ -36,10 +36,13 @@ pub record Placed (records : List Record) (places : List ℕ) : Type 0 where
   pub size : length places ≡ mostNodes
   pub last : (v : ℕ) → v < mostNodes → Last v records (getD places v 0)
 
--- The listing between ticks: so many records are written into the buffer, values that still last end at the horizon, and the places are
--- theirs.
-pub record Holding (buffer : List ℕ) (horizon : ℕ) (records : List Record) (n : ℕ) (listing places : List ℕ) : Type 0 where
+-- a value that still lasts
+abbrev pub notEnded : ℕ → ℕ
+notEnded v = 0
+
+-- The listing between ticks: so many records are written into the buffer, values that still last have end 0, and the places are theirs.
+pub record Holding (buffer : List ℕ) (records : List Record) (n : ℕ) (listing places : List ℕ) : Type 0 where
   pub counted : n ≡ length records
   pub fits : recordSize * length records ≤ length buffer
-  pub bytes : listing ≡ bufferAfter (withEnds (λ v. horizon) records) buffer
+  pub bytes : listing ≡ bufferAfter (withEnds notEnded records) buffer
   pub placed : Placed records places

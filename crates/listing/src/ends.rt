@@ -1,5 +1,5 @@
-// The ends of values. Every record is written with the horizon as its end; the next record of its node puts it right, and a refusal ends
-// the values that still last. A node's last record is remembered by its number, counted from 1.
+// The ends of values. A record is written with end 0; the next record of its node puts it right, and once the ticks are done the values that
+// still last are ended. A node's last record is remembered by its number, counted from 1.
 use crate::record::write_end;
 use crate::record::write_record;
 use sheet::NODES;
@@ -26,30 +26,29 @@ fn end_last(listing: &mut [u8], last: usize, end: u32)
     }
 }
 
-// Writes record number n: a node's new value at tick t, where the value before it ends. It lasts to the horizon, for what is known.
+// Writes record number n: a node's new value at tick t, where the value before it ends.
 pub(crate) fn write_value(
     listing: &mut [u8],
     n: usize,
     t: u32,
-    horizon: u32,
     node: u8,
     value: u8,
     places: &mut [usize; NODES],
 )
-    requires { ⌜ ((buffer : List ℕ) × (records : List Record) × Holding buffer horizon records n (now listing) (now places))
+    requires { ⌜ ((buffer : List ℕ) × (records : List Record) × Holding buffer records n (now listing) (now places))
         × (recordSize * (n + 1) ≤ length (now listing)) ⌝ }
-    ensures { λ _. ⌜ ((buffer : List ℕ) (records : List Record) → Holding buffer horizon records n (now (listing .entry)) (now (places .entry))
-        → Holding buffer horizon (records ++ record { tick = t; node = node; value = value } ∷ []) (n + 1) (now (listing .exit))
+    ensures { λ _. ⌜ ((buffer : List ℕ) (records : List Record) → Holding buffer records n (now (listing .entry)) (now (places .entry))
+        → Holding buffer (records ++ record { tick = t; node = node; value = value } ∷ []) (n + 1) (now (listing .exit))
         (now (places .exit))) ⌝ }
 {
     let v = wide(node);
     end_last(listing, places[v], t);
-    write_record(listing, n, t, node, value, horizon);
+    write_record(listing, n, t, node, value, 0);
     places[v] = n + 1;
 }
 
 // The values that the first n watched nodes have still end at a tick.
-pub(crate) fn end_all(
+pub fn end_all(
     listing: &mut [u8],
     watched: &[u8; WATCHED],
     n: usize,
@@ -57,10 +56,9 @@ pub(crate) fn end_all(
     end: u32,
 )
     requires { ⌜ (n ≤ mostWatched) × (length (now watched) ≡ mostWatched)
-        × ((buffer : List ℕ) × (horizon : ℕ) × (records : List Record) × (count : ℕ)
-        × Holding buffer horizon records count (now listing) (now places)) ⌝ }
-    ensures { λ _. ⌜ ((buffer : List ℕ) (horizon : ℕ) (records : List Record) (count : ℕ)
-        → Holding buffer horizon records count (now (listing .entry)) (now (places .entry))
+        × ((buffer : List ℕ) × (records : List Record) × (count : ℕ) × Holding buffer records count (now listing) (now places)) ⌝ }
+    ensures { λ _. ⌜ ((buffer : List ℕ) (records : List Record) (count : ℕ)
+        → Holding buffer records count (now (listing .entry)) (now (places .entry))
         → ((r : Record) → List·Memᴰ r records → List·Memᴰ (r .node) (take n (now (watched .entry))))
         → now (listing .exit) ≡ bufferAfter (withEnds (λ v. end) records) buffer) ⌝ }
 {

@@ -40,7 +40,6 @@ pub(crate) fn write_fresh(
     listing: &mut [u8],
     at: usize,
     t: u32,
-    horizon: u32,
     watched: &[u8; WATCHED],
     n: usize,
     values: &[u8; NODES],
@@ -49,9 +48,9 @@ pub(crate) fn write_fresh(
 ) -> usize
     requires { ⌜ (n ≤ mostWatched) × (length (now watched) ≡ mostWatched)
         × (recordSize * (at + length (fresh t (now values) (now shown) (take n (now watched)))) ≤ length (now listing))
-        × ((buffer : List ℕ) × (before : List Record) × Holding buffer horizon before at (now listing) (now places)) ⌝ }
-    ensures { λ r. ⌜ ((buffer : List ℕ) (before : List Record) → Holding buffer horizon before at (now (listing .entry)) (now (places .entry))
-        → Holding buffer horizon (before ++ fresh t (now (values .entry)) (now (shown .entry)) (take n (now (watched .entry)))) r
+        × ((buffer : List ℕ) × (before : List Record) × Holding buffer before at (now listing) (now places)) ⌝ }
+    ensures { λ r. ⌜ ((buffer : List ℕ) (before : List Record) → Holding buffer before at (now (listing .entry)) (now (places .entry))
+        → Holding buffer (before ++ fresh t (now (values .entry)) (now (shown .entry)) (take n (now (watched .entry)))) r
         (now (listing .exit)) (now (places .exit))) ⌝ }
 {
     let mut c = at;
@@ -60,7 +59,7 @@ pub(crate) fn write_fresh(
         let node = watched[k];
         let v = wide(node);
         if values[v] != shown[v] {
-            write_value(listing, c, t, horizon, node, values[v], places);
+            write_value(listing, c, t, node, values[v], places);
             c += 1;
         }
         k += 1;

@@ -1,9 +1,9 @@
-// The listing's part of a tick: 19 before any record is written, 20 after they are. Values that still last then end there.
+// The listing's part of a tick: 19 before any record is written, 20 after they are.
 mod ends;
 mod fresh;
 mod record;
 
-use ends::end_all;
+pub use ends::end_all;
 use fresh::count_fresh;
 use fresh::show_all;
 use fresh::write_fresh;
@@ -13,9 +13,9 @@ pub use record::record_at;
 use sheet::NODES;
 use sheet::PENDING_LIMIT;
 use sheet::WATCHED;
-ghost use mathlib.Core.List.{List, List·Memᴰ};
+ghost use mathlib.Core.List.{List};
 ghost use mathlib.Core.Path.{_≡_};
-ghost use Prim.Native.Nat.{ℕ, _+_, _*_, _<_, _≤_};
+ghost use Prim.Native.Nat.{ℕ, _+_, _*_, _≤_};
 ghost use lib.ListN.{length, take};
 ghost use Rattle.sheet.specs.Limits.{mostNodes, mostWatched};
 ghost use Rattle.network.specs.Listing.{Record};
@@ -40,7 +40,6 @@ fn write(
     listing: &mut [u8],
     n: usize,
     t: u32,
-    horizon: u32,
     watched: &[u8; WATCHED],
     count: usize,
     values: &[u8; NODES],
@@ -51,26 +50,15 @@ fn write(
     requires { ⌜ (count ≤ mostWatched) × (length (now watched) ≡ mostWatched) × (length (now shown) ≡ mostNodes)
         × (records ≡ length (fresh t (now values) (now shown) (take count (now watched))))
         × (recordSize * (n + records) ≤ length (now listing))
-        × ((buffer : List ℕ) × (before : List Record) × Holding buffer horizon before n (now listing) (now places)) ⌝ }
-    ensures { λ r. ⌜ ((buffer : List ℕ) (before : List Record) → Holding buffer horizon before n (now (listing .entry)) (now (places .entry))
-        → RecordsWritten buffer horizon before (fresh t (now (values .entry)) (now (shown .entry)) (take count (now (watched .entry))))
-        (now (values .entry)) (now (shown .entry)) (take count (now (watched .entry)))
-        r (now (listing .exit)) (now (shown .exit)) (now (places .exit))) ⌝ }
+        × ((buffer : List ℕ) × (before : List Record) × Holding buffer before n (now listing) (now places)) ⌝ }
+    ensures { λ r. ⌜ ((buffer : List ℕ) (before : List Record) → Holding buffer before n (now (listing .entry)) (now (places .entry))
+        → RecordsWritten buffer before (now (listing .entry)) (now (shown .entry)) (now (places .entry)) t
+        (take count (now (watched .entry))) (now (values .entry)) r (now (listing .exit)) (now (shown .exit)) (now (places .exit))) ⌝ }
 {
     if records == 0 {
         return n;
     }
-    let written = write_fresh(
-        listing,
-        n,
-        t,
-        horizon,
-        watched,
-        count,
-        values,
-        &*shown,
-        places,
-    );
+    let written = write_fresh(listing, n, t, watched, count, values, &*shown, places);
     show_all(watched, count, values, shown);
     written
 }
@@ -80,7 +68,6 @@ pub fn list(
     listing: &mut [u8],
     n: usize,
     t: u32,
-    horizon: u32,
     watched: &[u8; WATCHED],
     count: usize,
     values: &[u8; NODES],
@@ -88,25 +75,22 @@ pub fn list(
     places: &mut [usize; NODES],
     pending: usize,
 ) -> Step
-    requires { ⌜ (count ≤ mostWatched) × (length (now watched) ≡ mostWatched) × (length (now shown) ≡ mostNodes) × (t < horizon)
-        × ((buffer : List ℕ) × (before : List Record) × Holding buffer horizon before n (now listing) (now places)) ⌝ }
-    ensures { λ r. ⌜ ((buffer : List ℕ) (before : List Record) → Holding buffer horizon before n (now (listing .entry)) (now (places .entry))
-        → ((r : Record) → List·Memᴰ r before → List·Memᴰ (r .node) (take count (now (watched .entry))))
-        → StepOf buffer horizon before t (take count (now (watched .entry))) (now (values .entry)) (now (shown .entry)) pending
+    requires { ⌜ (count ≤ mostWatched) × (length (now watched) ≡ mostWatched) × (length (now shown) ≡ mostNodes)
+        × ((buffer : List ℕ) × (before : List Record) × Holding buffer before n (now listing) (now places)) ⌝ }
+    ensures { λ r. ⌜ ((buffer : List ℕ) (before : List Record) → Holding buffer before n (now (listing .entry)) (now (places .entry))
+        → StepOf buffer before (now (listing .entry)) (now (shown .entry)) (now (places .entry)) t
+        (take count (now (watched .entry))) (now (values .entry)) pending
         r (now (listing .exit)) (now (shown .exit)) (now (places .exit))) ⌝ }
 {
     let records = count_fresh(watched, count, values, &*shown);
     let room = listing.len() / RECORD_SIZE;
-    let after = t + 1;
     if room - n < records {
-        end_all(listing, watched, count, &*places, t);
         return Step::Full;
     }
     let written = write(
         listing,
         n,
         t,
-        horizon,
         watched,
         count,
         values,
@@ -115,7 +99,6 @@ pub fn list(
         records,
     );
     if PENDING_LIMIT < pending {
-        end_all(listing, watched, count, &*places, after);
         return Step::Crowded(written);
     }
     Step::Next(written)

@@ -37,7 +37,7 @@ use Rattle.tick.proofs.Tables.{length-modules, length-drive}
 use Rattle.listing.specs.declared.Step.{Step}
 use Rattle.listing.specs.declared.Step.the-variants.{Next, Full, Crowded}
 use Rattle.listing.specs.Ends.{withEnds, Holding}
-use Rattle.listing.specs.Step.{RecordsWritten, StepOf}
+use Rattle.listing.specs.Step.{NoRoom, RecordsWritten, StepOf}
 use Rattle.listing.proofs.CellEnds.{cell-ends}
 use Rattle.listing.proofs.FreshLists.{fresh-few}
 use Rattle.listing.proofs.Holding.{nothing-yet, holding-length}
@@ -54,7 +54,7 @@ pub record BetweenTicks (S : Sheet) (st : State arrangement) (horizon : ℕ) (bu
   pub last-levels : Levels last
   pub shown-size : length shown ≡ 256
   pub store-size : Sized store
-  pub holding : Holding buffer horizon (recordsBelow arrangement S horizon st t) n listing places
+  pub holding : Holding buffer (recordsBelow arrangement S horizon st t) n listing places
   pub bounded : n ≤ 256 * t
   pub passed : (u : ℕ) → u < t → Passes arrangement S horizon st (length buffer) u
 
@@ -113,7 +113,7 @@ module _ {S : Sheet} {table delays times nodes levels watched : List ℕ} {st : 
         last-levels = rw (ap (λ x. x .last) (sym e)) (record { size = b .last-size; each = b .last-levels });
         shown-size = rw (ap (λ x. x .shown) (sym e)) (b .shown-size);
         store-size = size;
-        holding = nothing-yet buffer horizon;
+        holding = nothing-yet buffer;
         bounded = omega arith;
         passed = λ u h. absurd (omega arith);
       }
@@ -210,31 +210,49 @@ module _ {S : Sheet} {table delays times nodes levels watched : List ℕ} {st : 
 
         -- by the step that the listing tells
         abbrev Told : Step → List ℕ → List ℕ → List ℕ → Type 0
-        Told = StepOf buffer horizon (below t) t (take total watched) values′ shown (after .pending)
+        Told = StepOf buffer (below t) now shown places t (take total watched) values′ (after .pending)
 
         -- 19: no room for its records, and what lasts ends at this tick
-        pub told-full : {x : Step} (now′ shown′ places′ : List ℕ) → x ≡ Full → Told x now′ shown′ places′ → Ended buffer now′ (refused 19 t n)
-        told-full now′ shown′ places′ e l =
-            let (over, left) = subst (λ x. Told x now′ shown′ places′) e l in
-            ended buffer now′ n t (refused 19 t) (G .within) (G .holding .counted) (left .bytes)
-            (full (R .accepted) horizon st (R .begun) (length buffer) t h (G .passed) (rw below-length over))
+        module _ {x : Step} (now′ shown′ places′ : List ℕ) (e : x ≡ Full) (l : Told x now′ shown′ places′) where
+          told : NoRoom buffer (below t) now shown places t (take total watched) values′ now′ shown′ places′
+          told = subst (λ x. Told x now′ shown′ places′) e l
+
+          pub full-holding : Holding buffer (below t) n now′ places′
+          full-holding = rw (told .untouched, told .still-placed) (G .holding)
+
+          pub told-full : (last : List ℕ) → last ≡ bufferAfter (withEnds (λ v. t) (below t)) buffer → Ended buffer last (refused 19 t n)
+          told-full last bytes =
+              ended buffer last n t (refused 19 t) (G .within) (G .holding .counted) bytes
+              (full (R .accepted) horizon st (R .begun) (length buffer) t h (G .passed) (rw below-length (told .over)))
+
+        -- the records are written
+        module _ {count : ℕ} {now′ shown′ places′ : List ℕ} (D : RecordsWritten buffer (below t) now shown places t (take total watched) values′ count now′ shown′ places′) where
+          all-held : Holding buffer (below (suc t)) count now′ places′
+          all-held = rw below-next (D .holding)
+
+          few-written : count ≤ 256 * suc t
+          few-written = omega (arith, D .holding .counted, length-append (below t) these, G .holding .counted, G .bounded, few-these)
 
         -- 20: too many changes pending, and what lasts ends at the tick after
-        pub told-crowded : {x : Step} {count : ℕ} (now′ shown′ places′ : List ℕ) → x ≡ Crowded count → Told x now′ shown′ places′ → Ended buffer now′ (refused 20 t count)
-        told-crowded {count = count} now′ shown′ places′ e l =
-            let (fits, over, left) = subst (λ x. Told x now′ shown′ places′) e l in
-            ended buffer now′ count (suc t) (refused 20 t) h (rw below-next (left .counted)) (rw below-next (left .bytes))
-            (crowded (R .accepted) horizon st (R .begun) (length buffer) t h (G .passed) (rw below-length fits) (rw pending-now over))
+        module _ {x : Step} {count : ℕ} (now′ shown′ places′ : List ℕ) (e : x ≡ Crowded count) (l : Told x now′ shown′ places′) where
+          crowded-step : Told (Crowded count) now′ shown′ places′
+          crowded-step = subst (λ x. Told x now′ shown′ places′) e l
 
-        -- a count that 20 leaves is a number of 32 bits
-        pub few-left : {x : Step} {count : ℕ} (now′ shown′ places′ : List ℕ) → x ≡ Crowded count → Told x now′ shown′ places′ → count < 4294967296
-        few-left now′ shown′ places′ e l =
-            let (fits, over, left) = subst (λ x. Told x now′ shown′ places′) e l in
-            omega (arith, left .counted, length-append (below t) these, G .holding .counted, G .bounded, R .few-ticks, few-these)
+          pub crowded-holding : Holding buffer (below (suc t)) count now′ places′
+          crowded-holding = all-held (crowded-step .2)
 
-        -- on to the next tick: the records are written
+          pub told-crowded : (last : List ℕ) → last ≡ bufferAfter (withEnds (λ v. suc t) (below (suc t))) buffer → Ended buffer last (refused 20 t count)
+          told-crowded last bytes =
+              ended buffer last count (suc t) (refused 20 t) h (crowded-holding .counted) bytes
+              (crowded (R .accepted) horizon st (R .begun) (length buffer) t h (G .passed) (rw below-length (crowded-step .0)) (rw pending-now (crowded-step .1)))
+
+          -- the count is a number of 32 bits
+          pub few-left : count < 4294967296
+          few-left = omega (arith, few-written (crowded-step .2), R .few-ticks)
+
+        -- on to the next tick
         module _ (fits : length (below t) + length these ≤ room (length buffer)) (few : after .pending ≤ pendingLimit) {count : ℕ} {now′ shown′ places′ : List ℕ}
-            (D : RecordsWritten buffer horizon (below t) these values′ shown (take total watched) count now′ shown′ places′) where
+            (D : RecordsWritten buffer (below t) now shown places t (take total watched) values′ count now′ shown′ places′) where
           shown-next : shown′ ≡ tickOf arrangement S horizon t start-of-tick .state .shown
           shown-next = D .now-shown ∙ rw (R .watched-there, worked .values-worked)
 
@@ -255,8 +273,8 @@ module _ {S : Sheet} {table delays times nodes levels watched : List ℕ} {st : 
                 last-levels = W .last-levels;
                 shown-size = D .shown-size;
                 store-size = W .store-size;
-                holding = rw below-next (D .holding);
-                bounded = omega (arith, D .holding .counted, length-append (below t) these, G .holding .counted, G .bounded, few-these);
+                holding = all-held D;
+                bounded = few-written D;
                 passed = λ u. here u (ℕ-discrete u t);
               }
             where
@@ -270,10 +288,10 @@ module _ {S : Sheet} {table delays times nodes levels watched : List ℕ} {st : 
             let (fits, few, done) = subst (λ x. Told x now′ shown′ places′) e l in
             next-tick fits few done
 
-    -- the horizon is reached
-    pub reached : horizon ≤ t → Ended buffer now (finished n)
-    reached past =
-        ended buffer now n t finished (G .within) (G .holding .counted) (G .holding .bytes ∙ ap (λ k. bufferAfter (withEnds (λ v. k) (below t)) buffer) all)
+    -- the horizon is reached, and what lasts ends there
+    pub reached : horizon ≤ t → (last : List ℕ) → last ≡ bufferAfter (withEnds (λ v. horizon) (below t)) buffer → Ended buffer last (finished n)
+    reached past last bytes =
+        ended buffer last n t finished (G .within) (G .holding .counted) (bytes ∙ ap (λ k. bufferAfter (withEnds (λ v. k) (below t)) buffer) all)
         (subst (λ k. ranSheet S horizon (length buffer) ≡ wrote (finished (length (below k))) (endedListing S cells k)) all
         (whole (R .accepted) horizon st (R .begun) (length buffer) (λ u l. G .passed u (omega arith))))
       where

@@ -1,5 +1,7 @@
-// The ticks in turn, until one is refused or the horizon is reached.
+// The ticks in turn, until one is refused or the horizon is reached. There the values end that still last: at the tick that 19 refuses, at the
+// tick after the one that 20 refuses, or at the horizon.
 use listing::Step;
+use listing::end_all;
 use listing::list;
 use pending::Store;
 use sheet::Answer;
@@ -76,7 +78,6 @@ pub(crate) fn ticks(
             listing,
             n,
             t,
-            horizon,
             watched,
             count,
             &*values,
@@ -84,18 +85,22 @@ pub(crate) fn ticks(
             &mut places,
             due,
         );
+        let after = t + 1;
         match step {
             Step::Full => {
+                end_all(listing, watched, count, &places, t);
                 return Answer::Refused(19, t, n as u32);
             }
             Step::Crowded(written) => {
+                end_all(listing, watched, count, &places, after);
                 return Answer::Refused(20, t, written as u32);
             }
             Step::Next(written) => {
                 n = written;
             }
         }
-        t += 1;
+        t = after;
     }
+    end_all(listing, watched, count, &places, horizon);
     Answer::Ran(n as u32)
 }

@@ -6,8 +6,8 @@
 //! results are scheduled, the count of the records, the records, and the values now shown. The
 //! arrays are its arrays: 8 bytes a module in working order, the delays, the laid-out rules, the
 //! values, what each module came to last, one flat list of pending changes, each in 32 bits, and where
-//! each node's last record stands. A record is written with the horizon as its end, which the node's
-//! next record, or a refusal of the tick, puts right.
+//! each node's last record stands. A record is written with end 0, which the node's next record puts
+//! right, and for what still lasts the end of the run.
 //!
 //! Both sides are compiled by LLVM at -O3 for the x86-64 that all machines have, each as one
 //! module: the library so by its own tool, this side by the workspace's release profile (fat LTO,
@@ -60,5 +60,6 @@ fn ticks(sheet: &Sheet, horizon: u32, listing: &mut [u8]) -> [u32; 3] {
             return [20, tick, written as u32];
         }
     }
+    state.end_all(horizon, records);
     [0, 0, written as u32]
 }

@@ -128,12 +128,11 @@ impl<'a> Tick<'a> {
         }
     }
 
-    /// The record of a node's value, which may last to the horizon.
+    /// The record of a node's value, whose end is not known yet.
     fn record(&self, tick: u32, node: u8) -> Record {
         let [t0, t1, t2, t3] = tick.to_le_bytes();
-        let [e0, e1, e2, e3] = self.horizon.to_le_bytes();
         let value = self.values[usize::from(node)];
-        [t0, t1, t2, t3, node, value, e0, e1, e2, e3]
+        [t0, t1, t2, t3, node, value, 0, 0, 0, 0]
     }
 
     /// The node's last record, if it has one, ends at this tick.

@@ -16,14 +16,14 @@ use Rattle.listing.proofs.ends.end_all.Tie as tie
 abbrev Inv-loop : tie.InvT-loop
 Inv-loop listing₀ watched n places end k₀ listing k =
     (k ≤ n) × (length listing ≡ length listing₀)
-    × ((buffer : List ℕ) (horizon : ℕ) (records : List Record) (count : ℕ) → Holding buffer horizon records count listing₀ places
-    → listing ≡ bufferAfter (withEnds (endsFor watched end horizon k) records) buffer)
+    × ((buffer : List ℕ) (records : List Record) (count : ℕ) → Holding buffer records count listing₀ places
+    → listing ≡ bufferAfter (withEnds (endsFor watched end k) records) buffer)
 
 abbrev μ-loop : tie.MeasureT-loop
 μ-loop listing₀ watched n places end k₀ listing k = n - k
 
 loop-holds : tie.Need-loop-holds Inv-loop μ-loop
-loop-holds c = (omega arith, refl, λ buffer horizon records count H. H .bytes)
+loop-holds c = (omega arith, refl, λ buffer records count H. H .bytes)
 
 element-copy-out-wide : tie.Need-element-copy-out-wide Inv-loop μ-loop
 element-copy-out-wide c = omega arith
@@ -41,7 +41,7 @@ end-last-requires : tie.Need-end-last-requires Inv-loop μ-loop
 end-last-requires c κs =
     let loop = c .before .before .before .before .before .loop in
     let held = c .before .before .before .before .before .before .before .pre .2 in
-    omega (arith, place-known (held .4) (c .before .wide .result) (omega arith), loop .inv .1)
+    omega (arith, place-known (held .3) (c .before .wide .result) (omega arith), loop .inv .1)
 
 add-k : tie.Need-add-k Inv-loop μ-loop
 add-k c = omega arith
@@ -57,20 +57,20 @@ loop-again c =
     let ended = c .before .before .end-last in (
       omega arith,
       ended .kept .0 ∙ loop .inv .1,
-      λ buffer horizon records count H.
+      λ buffer records count H.
           rw (add-one, ← wide .ensures .0)
-          (ended .ensures buffer (endsFor (a .watched .now) (a .end) horizon (loop .k)) records (wide .result) (H .fits) (loop .inv .2 buffer horizon records count H) (H .placed .last (wide .result) (omega arith))),
+          (ended .ensures buffer (endsFor (a .watched .now) (a .end) (loop .k)) records (wide .result) (H .fits) (loop .inv .2 buffer records count H) (H .placed .last (wide .result) (omega arith))),
     )
 
 same-length : tie.Need-same-length Inv-loop μ-loop
 same-length c = c .before .loop .inv .1
 
 returns : tie.Need-returns Inv-loop μ-loop
-returns c buffer horizon records count H among =
+returns c buffer records count H among =
     let loop = c .before .loop in
     let a = c .before .before .before .args in
     let all : loop .k ≡ a .n = omega arith in
-    loop .inv .2 buffer horizon records count H ∙ ap (λ rs. bufferAfter rs buffer) (rw all (all-have-end (a .watched .now) (a .end) horizon (a .n) records among))
+    loop .inv .2 buffer records count H ∙ ap (λ rs. bufferAfter rs buffer) (rw all (all-have-end (a .watched .now) (a .end) (a .n) records among))
 
 pub end-all-spec : {M : Type 1} → statement M
 end-all-spec =

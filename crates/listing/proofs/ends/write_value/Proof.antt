@@ -3,7 +3,7 @@ use borrow.Author.Needs.{needs}
 use native.Mathlib.Omega.{arith}
 use lib.ListN.{getD}
 use Rattle.network.specs.Listing.{Record}
-use Rattle.listing.specs.Ends.{Last}
+use Rattle.listing.specs.Ends.{Last, notEnded}
 use Rattle.listing.proofs.Holding.{place-known, one-more}
 use Rattle.listing.proofs.ends.write_value.Statement.{statement}
 use Rattle.listing.proofs.ends.write_value.Tie as tie
@@ -46,7 +46,7 @@ returns c buffer records H =
     let ended = c .before .before .before .before .before .before .end-last in
     let here : Last (a .node) records (getD (a .places .now) (wide .result) 0) = rw (wide .ensures .0) (H .placed .last (a .node) (omega arith)) in
     rw (wide .ensures .0, c .before .before .write-record .ensures)
-    (one-more H r (omega arith) (start .pre .1) _ (ended .ensures buffer (λ v. a .horizon) records (a .node) (H .fits) (H .bytes) here))
+    (one-more H r (omega arith) (start .pre .1) _ (ended .ensures buffer notEnded records (a .node) (H .fits) (H .bytes) here))
 
 pub write-value-spec : {M : Type 1} → statement M
 write-value-spec =

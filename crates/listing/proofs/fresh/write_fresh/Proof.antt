@@ -17,12 +17,12 @@ use Rattle.listing.proofs.fresh.write_fresh.Statement.{statement}
 use Rattle.listing.proofs.fresh.write_fresh.Tie as tie
 
 abbrev Inv-loop : tie.InvT-loop
-Inv-loop listing₀ at t horizon watched n values shown places₀ c₀ k₀ listing places c k =
+Inv-loop listing₀ at t watched n values shown places₀ c₀ k₀ listing places c k =
     (k ≤ n) × (length listing ≡ length listing₀) × (c ≡ at + length (fresh t values shown (take k watched)))
-    × ((buffer : List ℕ) (before : List Record) → Holding buffer horizon before at listing₀ places₀ → Holding buffer horizon (before ++ fresh t values shown (take k watched)) c listing places)
+    × ((buffer : List ℕ) (before : List Record) → Holding buffer before at listing₀ places₀ → Holding buffer (before ++ fresh t values shown (take k watched)) c listing places)
 
 abbrev μ-loop : tie.MeasureT-loop
-μ-loop listing₀ at t horizon watched n values shown places₀ c₀ k₀ listing places c k = n - k
+μ-loop listing₀ at t watched n values shown places₀ c₀ k₀ listing places c k = n - k
 
 loop-holds : tie.Need-loop-holds Inv-loop μ-loop
 unfolding fresh

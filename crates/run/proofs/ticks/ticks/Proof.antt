@@ -7,7 +7,7 @@ use native.Mathlib.Omega.{arith}
 use Prim.Native.Nat.{_-_}
 use Rattle.sheet.specs.Sheet.{Sheet}
 use Rattle.run.specs.Ready.{kept, Ready}
-use Rattle.run.proofs.BetweenTicks.{BetweenTicks, start, workable, among-watched, told-full, told-crowded, told-next, reached, few-records, few-left, same-length-so-far}
+use Rattle.run.proofs.BetweenTicks.{BetweenTicks, start, workable, among-watched, full-holding, told-full, crowded-holding, told-crowded, few-left, told-next, reached, few-records, same-length-so-far}
 use Rattle.run.proofs.ticks.ticks.Statement.{statement}
 use Rattle.run.proofs.ticks.ticks.Tie as tie
 
@@ -38,62 +38,66 @@ list-requires c κs =
     let i = c .before .before .before .before .before .before .before .before .before .loop .inv in
     let R = i .0 .1 in
     let G = i .1 _ R in
-    (R .watched-few, R .watched-size, G .shown-size, c .before .before .before .before .before .before .before .before .loop-test .taken, (_, _, G .holding))
+    (R .watched-few, R .watched-size, G .shown-size, (_, _, G .holding))
+
+add-after : tie.Need-add-after Inv-loop μ-loop
+add-after c =
+    let R = c .before .before .before .before .before .before .before .before .before .before .before .before .loop .inv .0 .1 in
+    omega (arith, c .before .before .before .before .before .before .before .before .before .before .before .loop-test .taken, R .few-ticks)
 
 enum-told : tie.Need-enum-told Inv-loop μ-loop
 enum-told c = search needs
 
-cast-t35 : tie.Need-cast-t35 Inv-loop μ-loop
-cast-t35 c =
-    let i = c .before .before .before .before .before .before .before .before .before .before .before .before .before .before .loop .inv in
+end-all-requires : tie.Need-end-all-requires Inv-loop μ-loop
+end-all-requires c κs =
+    let i = c .before .before .before .before .before .before .before .before .before .before .before .before .before .before .before .before .loop .inv in
     let R = i .0 .1 in
-    omega (arith, few-records R (i .1 _ R))
+    let G = i .1 _ R in
+    let held = full-holding R G (c .before .before .before .before .before .before .before .before .before .before .before .before .before .before .before .loop-test .taken) (c .before .before .before .before .before .before .before .before .before .before .before .work .ensures) _ _ _ (c .before .before .enum-told .given .1) (c .before .before .before .before .before .before .list .ensures _ _ (G .holding)) in
+    (R .watched-few, R .watched-size, (_, _, _, held))
 
 same-length : tie.Need-same-length Inv-loop μ-loop
 same-length c =
-    let i = c .before .before .before .before .before .before .before .before .before .before .before .before .before .before .loop .inv in
-    let R = i .0 .1 in
-    c .before .before .before .listing .given ∙ same-length-so-far (i .1 _ R)
+    let i = c .before .before .before .before .before .before .before .before .before .before .before .before .before .before .before .before .before .before .before .loop .inv in
+    c .before .before .end-all .kept .0 ∙ c .before .before .before .before .before .before .before .before .listing .given ∙ same-length-so-far (i .1 _ (i .0 .1))
 
 returns : tie.Need-returns Inv-loop μ-loop
 returns c S R =
-    let G = c .before .before .before .before .before .before .before .before .before .before .before .before .before .before .loop .inv .1 S R in
-    told-full R G (c .before .before .before .before .before .before .before .before .before .before .before .before .before .loop-test .taken) (c .before .before .before .before .before .before .before .before .before .work .ensures) _ _ _ (c .enum-told .given .1)
-    (c .before .before .before .before .list .ensures _ _ (G .holding) (among-watched R _ (G .within)))
+    let G = c .before .before .before .before .before .before .before .before .before .before .before .before .before .before .before .before .before .before .before .loop .inv .1 S R in
+    let below = c .before .before .before .before .before .before .before .before .before .before .before .before .before .before .before .before .before .before .loop-test .taken in
+    let worked = c .before .before .before .before .before .before .before .before .before .before .before .before .before .before .work .ensures in
+    let step = c .before .before .before .before .before .enum-told .given .1 in
+    let listed = c .before .before .before .before .before .before .before .before .before .list .ensures _ _ (G .holding) in
+    told-full R G below worked _ _ _ step listed _ (c .before .before .end-all .ensures _ _ _ (full-holding R G below worked _ _ _ step listed) (among-watched R _ (G .within)))
 
 enum-known-step : tie.Need-enum-known-step Inv-loop μ-loop
 enum-known-step c = search needs
 
-cast-t36 : tie.Need-cast-t36 Inv-loop μ-loop
-cast-t36 c =
-    let i = c .before .before .before .before .before .before .before .before .before .before .before .before .before .before .before .loop .inv in
+end-all-requires-2 : tie.Need-end-all-requires-2 Inv-loop μ-loop
+end-all-requires-2 c κs =
+    let i = c .before .before .before .before .before .before .before .before .before .before .before .before .before .before .before .before .before .loop .inv in
     let R = i .0 .1 in
     let G = i .1 _ R in
-    omega (
-      arith,
-      few-left R G (c .before .before .before .before .before .before .before .before .before .before .before .before .before .before .loop-test .taken) (c .before .before .before .before .before .before .before .before .before .before .work .ensures) _ _ _ (c .before .step .given .1)
-          (c .before .before .before .before .before .list .ensures _ _ (G .holding) (among-watched R _ (G .within))),
-    )
+    let held = crowded-holding R G (c .before .before .before .before .before .before .before .before .before .before .before .before .before .before .before .before .loop-test .taken) (c .before .before .before .before .before .before .before .before .before .before .before .before .work .ensures) _ _ _ (c .before .before .before .step .given .1) (c .before .before .before .before .before .before .before .list .ensures _ _ (G .holding)) in
+    (R .watched-few, R .watched-size, (_, _, _, held))
 
 same-length-2 : tie.Need-same-length-2 Inv-loop μ-loop
 same-length-2 c =
-    let i = c .before .before .before .before .before .before .before .before .before .before .before .before .before .before .before .loop .inv in
-    let R = i .0 .1 in
-    c .before .before .before .before .listing .given ∙ same-length-so-far (i .1 _ R)
+    let i = c .before .before .before .before .before .before .before .before .before .before .before .before .before .before .before .before .before .before .before .before .loop .inv in
+    c .before .before .end-all2 .kept .0 ∙ c .before .before .before .before .before .before .before .before .before .listing .given ∙ same-length-so-far (i .1 _ (i .0 .1))
 
 returns-2 : tie.Need-returns-2 Inv-loop μ-loop
 returns-2 c S R =
-    let G = c .before .before .before .before .before .before .before .before .before .before .before .before .before .before .before .loop .inv .1 S R in
-    told-crowded R G (c .before .before .before .before .before .before .before .before .before .before .before .before .before .before .loop-test .taken) (c .before .before .before .before .before .before .before .before .before .before .work .ensures) _ _ _ (c .before .step .given .1)
-    (c .before .before .before .before .before .list .ensures _ _ (G .holding) (among-watched R _ (G .within)))
+    let G = c .before .before .before .before .before .before .before .before .before .before .before .before .before .before .before .before .before .before .before .before .loop .inv .1 S R in
+    let below = c .before .before .before .before .before .before .before .before .before .before .before .before .before .before .before .before .before .before .before .loop-test .taken in
+    let worked = c .before .before .before .before .before .before .before .before .before .before .before .before .before .before .before .work .ensures in
+    let step = c .before .before .before .before .before .before .step .given .1 in
+    let listed = c .before .before .before .before .before .before .before .before .before .before .list .ensures _ _ (G .holding) in
+    let held = crowded-holding R G below worked _ _ _ step listed in
+    told-crowded R G below worked _ _ _ step listed _ (rw add-one at (c .before .before .end-all2 .ensures _ _ _ held (among-watched R _ below)))
 
 enum-known-step-2 : tie.Need-enum-known-step-2 Inv-loop μ-loop
 enum-known-step-2 c = search needs
-
-add-t : tie.Need-add-t Inv-loop μ-loop
-add-t c =
-    let R = c .before .before .before .before .before .before .before .before .before .before .before .before .before .before .before .loop .inv .0 .1 in
-    omega (arith, c .before .before .before .before .before .before .before .before .before .before .before .before .before .before .loop-test .taken, R .few-ticks)
 
 loop-less : tie.Need-loop-less Inv-loop μ-loop
 loop-less c = omega (arith, c .before .before .before .before .before .before .before .before .before .before .before .before .before .before .loop-test .taken)
@@ -104,25 +108,24 @@ loop-again c =
       i .0,
       λ S R.
           let G = i .1 S R in
-          rw add-one
-          (told-next R G (c .before .before .before .before .before .before .before .before .before .before .before .before .before .before .loop-test .taken) (c .before .before .before .before .before .before .before .before .before .before .work .ensures) _ _ _ (c .before .step2 .given .1)
-          (c .before .before .before .before .before .list .ensures _ _ (G .holding) (among-watched R _ (G .within)))),
+          rw add-one (told-next R G (c .before .before .before .before .before .before .before .before .before .before .before .before .before .before .loop-test .taken) (c .before .before .before .before .before .before .before .before .before .before .work .ensures) _ _ _ (c .before .step2 .given .1) (c .before .before .before .before .before .list .ensures _ _ (G .holding))),
     )
 
-cast-t37 : tie.Need-cast-t37 Inv-loop μ-loop
-cast-t37 c =
-    let i = c .before .loop .inv in
+end-all-requires-3 : tie.Need-end-all-requires-3 Inv-loop μ-loop
+end-all-requires-3 c κs =
+    let i = c .before .before .before .loop .inv in
     let R = i .0 .1 in
-    omega (arith, few-records R (i .1 _ R))
+    (R .watched-few, R .watched-size, (_, _, _, i .1 _ R .holding))
 
 same-length-3 : tie.Need-same-length-3 Inv-loop μ-loop
 same-length-3 c =
-    let i = c .before .loop .inv in
-    let R = i .0 .1 in
-    same-length-so-far (i .1 _ R)
+    let i = c .before .before .before .before .before .before .loop .inv in
+    c .before .before .end-all3 .kept .0 ∙ same-length-so-far (i .1 _ (i .0 .1))
 
 returns-3 : tie.Need-returns-3 Inv-loop μ-loop
-returns-3 c S R = reached R (c .before .loop .inv .1 S R) (c .loop-test .left)
+returns-3 c S R =
+    let G = c .before .before .before .before .before .before .loop .inv .1 S R in
+    reached R G (c .before .before .before .before .before .loop-test .left) _ (c .before .before .end-all3 .ensures _ _ _ (G .holding) (among-watched R _ (G .within)))
 
 pub ticks-spec : {M : Type 1} → statement M
 ticks-spec =
@@ -133,18 +136,25 @@ ticks-spec =
     loop-holds
     work-requires
     list-requires
+    add-after
     enum-told
-    cast-t35
+    end-all-requires
+    (λ c. let i = c .before .before .before .before .before .before .before .before .before .before .before .before .before .before .before .before .before .before .before .loop .inv in omega (arith, few-records (i .0 .1) (i .1 _ (i .0 .1))))
     same-length
     returns
     enum-known-step
-    cast-t36
+    end-all-requires-2
+    (λ c.
+    let i = c .before .before .before .before .before .before .before .before .before .before .before .before .before .before .before .before .before .before .before .before .loop .inv in
+    let R = i .0 .1 in
+    let G = i .1 _ R in
+    omega (arith, few-left R G (c .before .before .before .before .before .before .before .before .before .before .before .before .before .before .before .before .before .before .before .loop-test .taken) (c .before .before .before .before .before .before .before .before .before .before .before .before .before .before .before .work .ensures) _ _ _ (c .before .before .before .before .before .before .step .given .1) (c .before .before .before .before .before .before .before .before .before .before .list .ensures _ _ (G .holding))))
     same-length-2
     returns-2
     enum-known-step-2
-    add-t
     loop-less
     loop-again
-    cast-t37
+    end-all-requires-3
+    (λ c. let i = c .before .before .before .before .before .before .loop .inv in omega (arith, few-records (i .0 .1) (i .1 _ (i .0 .1))))
     same-length-3
     returns-3)
