@@ -16,7 +16,7 @@ use Rattle.network.specs.Ends.{Ended}
 use Rattle.network.specs.Buffer.{recordSize, bufferAfter}
 use Rattle.network.proofs.Rising.{mem-place}
 use Rattle.listing.specs.Record.{written, endWritten}
-use Rattle.listing.specs.Ends.{nextOf, withEnds, endAt, Last, nowhere, notEnded, Holding}
+use Rattle.listing.specs.Ends.{nextOf, withEnds, endAt, Last, nowhere, notEnded, endsFor, Holding}
 use Rattle.listing.proofs.Buffer.{buffer-none, buffer-more, buffer-length, end-buffer}
 use Rattle.listing.proofs.LastRecords.{ends-append, ends-same, ends-length, none-ended, last-ended, last-still, last-new, last-known}
 
@@ -82,11 +82,7 @@ module _ {buffer : List ℕ} {records : List Record} {n : ℕ} {listing places :
           (last-new (H .placed .last v h) r (sym e))
       at v h (no d) = subst (Last v (records ++ r ∷ [])) (sym (getD-set-other places (r .node) v (n + 1) 0 d)) (last-still (H .placed .last v h) r (λ e. d (sym e)))
 
--- the ends that are given once the first k of these nodes have theirs
-abbrev pub endsFor : List ℕ → ℕ → ℕ → ℕ → ℕ
-endsFor nodes end zero = notEnded
-endsFor nodes end (suc k) = endAt (getD nodes k 0) end (endsFor nodes end k)
-
+-- once all of these nodes have theirs
 has-end : (nodes : List ℕ) (end n k : ℕ) → k < n → endsFor nodes end n (getD nodes k 0) ≡ end
 has-end nodes end zero k h = absurd (omega arith)
 has-end nodes end (suc n) k h = at (ℕ-discrete k n) (has-end nodes end n k)

@@ -1,7 +1,7 @@
--- The ends that records get while they are listed: from the later records of the same node, and at the last from what is given for the node.
+-- The ends that records get while they are listed: from later records of the same node, and at the last what is given for the node.
 use mathlib.Core.List.{List, [], _∷_}
 use mathlib.Core.Path.{_≡_}
-use Prim.Native.Nat.{ℕ, suc, _*_, _<_, _≤_}
+use Prim.Native.Nat.{ℕ, zero, suc, _*_, _<_, _≤_}
 use lib.Dec.{eqb}
 use lib.ListN.{length, getD}
 use Rattle.level.specs.Choice.{if_then_else_}
@@ -36,9 +36,14 @@ pub record Placed (records : List Record) (places : List ℕ) : Type 0 where
   pub size : length places ≡ mostNodes
   pub last : (v : ℕ) → v < mostNodes → Last v records (getD places v 0)
 
--- a value that still lasts
+-- a value that still lasts has no end yet
 abbrev pub notEnded : ℕ → ℕ
 notEnded v = 0
+
+-- the first k of these nodes have theirs
+abbrev pub endsFor : List ℕ → ℕ → ℕ → ℕ → ℕ
+endsFor nodes end zero = notEnded
+endsFor nodes end (suc k) = endAt (getD nodes k 0) end (endsFor nodes end k)
 
 -- The listing between ticks: so many records are written into the buffer, values that still last have end 0, and the places are theirs.
 pub record Holding (buffer : List ℕ) (records : List Record) (n : ℕ) (listing places : List ℕ) : Type 0 where

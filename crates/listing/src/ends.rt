@@ -1,18 +1,18 @@
-// The ends of values. A record is written with end 0; the next record of its node puts it right, and once the ticks are done the values that
-// still last are ended. A node's last record is remembered by its number, counted from 1.
+// The ends of values. A record is written with end 0; the next record of its node puts it right, and once the ticks are done the values
+// that still last are ended. A node's last record is remembered by its number, counted from 1.
 use crate::record::write_end;
 use crate::record::write_record;
 use sheet::NODES;
 use sheet::WATCHED;
 use sheet::wide;
-ghost use mathlib.Core.List.{List, [], _∷_, _++_, List·Memᴰ};
+ghost use mathlib.Core.List.{List, [], _∷_, _++_};
 ghost use mathlib.Core.Path.{_≡_};
 ghost use Prim.Native.Nat.{ℕ, _+_, _*_, _≤_};
-ghost use lib.ListN.{length, take};
+ghost use lib.ListN.{length};
 ghost use Rattle.sheet.specs.Limits.{mostWatched};
 ghost use Rattle.network.specs.Listing.{Record};
 ghost use Rattle.network.specs.Buffer.{recordSize, bufferAfter};
-ghost use Rattle.listing.specs.Ends.{withEnds, endAt, Last, Holding};
+ghost use Rattle.listing.specs.Ends.{withEnds, endAt, Last, endsFor, Holding};
 
 // A node's last record, by its number, ends at a tick. 0 is none.
 fn end_last(listing: &mut [u8], last: usize, end: u32)
@@ -59,8 +59,7 @@ pub fn end_all(
         × ((buffer : List ℕ) × (records : List Record) × (count : ℕ) × Holding buffer records count (now listing) (now places)) ⌝ }
     ensures { λ _. ⌜ ((buffer : List ℕ) (records : List Record) (count : ℕ)
         → Holding buffer records count (now (listing .entry)) (now (places .entry))
-        → ((r : Record) → List·Memᴰ r records → List·Memᴰ (r .node) (take n (now (watched .entry))))
-        → now (listing .exit) ≡ bufferAfter (withEnds (λ v. end) records) buffer) ⌝ }
+        → now (listing .exit) ≡ bufferAfter (withEnds (endsFor (now (watched .entry)) end n) records) buffer) ⌝ }
 {
     let mut k: usize = 0;
     while k < n {

@@ -28,8 +28,8 @@ pub record TickRow : Type 0 where
   pub left : List Ended
 
 -- 19 the buffer cannot take all records of this tick; then 20 more than 4,096 changes pending after it.
--- 19 leaves the records of all earlier ticks, and values that still last end at its tick; 20 those and its own tick's, and values end at the
--- tick after.
+-- 19 leaves the records of all earlier ticks, and values that still last end at its tick; 20 those and its own tick's, and such values
+-- end at the tick after.
 abbrev pub tickRows : Sheet → Cells → ℕ → ℕ → ℕ → List TickRow
 tickRows S c horizon bytes t =
     record { number = 19; tick = t; met = ltb (room bytes) (length (listing S c (suc t))); left = endedListing S c t }

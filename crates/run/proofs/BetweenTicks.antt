@@ -36,11 +36,11 @@ use Rattle.tick.specs.Tick.{loadedIn, Workable, Worked}
 use Rattle.tick.proofs.Tables.{length-modules, length-drive}
 use Rattle.listing.specs.declared.Step.{Step}
 use Rattle.listing.specs.declared.Step.the-variants.{Next, Full, Crowded}
-use Rattle.listing.specs.Ends.{withEnds, Holding}
+use Rattle.listing.specs.Ends.{withEnds, endsFor, Holding}
 use Rattle.listing.specs.Step.{NoRoom, RecordsWritten, StepOf}
 use Rattle.listing.proofs.CellEnds.{cell-ends}
 use Rattle.listing.proofs.FreshLists.{fresh-few}
-use Rattle.listing.proofs.Holding.{nothing-yet, holding-length}
+use Rattle.listing.proofs.Holding.{nothing-yet, holding-length, all-have-end}
 use Rattle.load.proofs.Begun.{known-modules, driving}
 use Rattle.run.specs.Ready.{kept, Ready}
 
@@ -96,7 +96,7 @@ module _ {S : Sheet} {table delays times nodes levels watched : List ℕ} {st : 
   below-listed : (t : ℕ) → t ≤ horizon → below t ≡ listing S cells t
   below-listed = so-far (R .accepted) horizon st (R .begun) 0
 
-  pub among-watched : (t : ℕ) → t ≤ horizon → (r : Record) → List·Memᴰ r (below t) → List·Memᴰ (r .node) (take total watched)
+  among-watched : (t : ℕ) → t ≤ horizon → (r : Record) → List·Memᴰ r (below t) → List·Memᴰ (r .node) (take total watched)
   among-watched t h r m = rw (R .watched-there) (listed-shown S cells t r .0 (rw (below-listed t h) at m) .watched)
 
   pub start : (values last shown store : List ℕ) → st ≡ kept values last shown store 0 → Sized store → (buffer : List ℕ)
@@ -124,12 +124,12 @@ module _ {S : Sheet} {table delays times nodes levels watched : List ℕ} {st : 
     Ended o = Leaves (ranSheet S horizon (length buffer)) buffer o listing′
 
     -- its records are those below a bound, and what lasts ends there
-    ended : (n t : ℕ) (o : ℕ → Outcome) → t ≤ horizon → n ≡ length (below t) → listing′ ≡ bufferAfter (withEnds (λ v. t) (below t)) buffer
+    ended : (n t : ℕ) (o : ℕ → Outcome) → t ≤ horizon → n ≡ length (below t) → listing′ ≡ bufferAfter (withEnds (endsFor watched t total) (below t)) buffer
         → ranSheet S horizon (length buffer) ≡ wrote (o (length (below t))) (endedListing S cells t) → Ended (o n)
     ended n t o h counted bytes e =
         record {
           answered = ap o counted ∙ sym (ap (λ w. w .answer) e);
-          left = bytes ∙ ap (λ rs. bufferAfter rs buffer) (ap (withEnds (λ v. t)) (below-listed t h) ∙ cell-ends cells t S (R .accepted) ∙ sym (ap (λ w. w .records) e));
+          left = bytes ∙ ap (λ rs. bufferAfter rs buffer) (all-have-end watched t total (below t) (among-watched t h) ∙ ap (withEnds (λ v. t)) (below-listed t h) ∙ cell-ends cells t S (R .accepted) ∙ sym (ap (λ w. w .records) e));
         }
 
   module _ {buffer : List ℕ} {t next due n : ℕ} {values last shown store now places : List ℕ}
@@ -220,7 +220,7 @@ module _ {S : Sheet} {table delays times nodes levels watched : List ℕ} {st : 
           pub full-holding : Holding buffer (below t) n now′ places′
           full-holding = rw (told .untouched, told .still-placed) (G .holding)
 
-          pub told-full : (last : List ℕ) → last ≡ bufferAfter (withEnds (λ v. t) (below t)) buffer → Ended buffer last (refused 19 t n)
+          pub told-full : (last : List ℕ) → last ≡ bufferAfter (withEnds (endsFor watched t total) (below t)) buffer → Ended buffer last (refused 19 t n)
           told-full last bytes =
               ended buffer last n t (refused 19 t) (G .within) (G .holding .counted) bytes
               (full (R .accepted) horizon st (R .begun) (length buffer) t h (G .passed) (rw below-length (told .over)))
@@ -241,7 +241,7 @@ module _ {S : Sheet} {table delays times nodes levels watched : List ℕ} {st : 
           pub crowded-holding : Holding buffer (below (suc t)) count now′ places′
           crowded-holding = all-held (crowded-step .2)
 
-          pub told-crowded : (last : List ℕ) → last ≡ bufferAfter (withEnds (λ v. suc t) (below (suc t))) buffer → Ended buffer last (refused 20 t count)
+          pub told-crowded : (last : List ℕ) → last ≡ bufferAfter (withEnds (endsFor watched (suc t) total) (below (suc t))) buffer → Ended buffer last (refused 20 t count)
           told-crowded last bytes =
               ended buffer last count (suc t) (refused 20 t) h (crowded-holding .counted) bytes
               (crowded (R .accepted) horizon st (R .begun) (length buffer) t h (G .passed) (rw below-length (crowded-step .0)) (rw pending-now (crowded-step .1)))
@@ -289,9 +289,9 @@ module _ {S : Sheet} {table delays times nodes levels watched : List ℕ} {st : 
             next-tick fits few done
 
     -- the horizon is reached, and what lasts ends there
-    pub reached : horizon ≤ t → (last : List ℕ) → last ≡ bufferAfter (withEnds (λ v. horizon) (below t)) buffer → Ended buffer last (finished n)
+    pub reached : horizon ≤ t → (last : List ℕ) → last ≡ bufferAfter (withEnds (endsFor watched horizon total) (below t)) buffer → Ended buffer last (finished n)
     reached past last bytes =
-        ended buffer last n t finished (G .within) (G .holding .counted) (bytes ∙ ap (λ k. bufferAfter (withEnds (λ v. k) (below t)) buffer) all)
+        ended buffer last n t finished (G .within) (G .holding .counted) (bytes ∙ ap (λ k. bufferAfter (withEnds (endsFor watched k total) (below t)) buffer) all)
         (subst (λ k. ranSheet S horizon (length buffer) ≡ wrote (finished (length (below k))) (endedListing S cells k)) all
         (whole (R .accepted) horizon st (R .begun) (length buffer) (λ u l. G .passed u (omega arith))))
       where

@@ -1,5 +1,5 @@
-// The ticks in turn, until one is refused or the horizon is reached. There the values end that still last: at the tick that 19 refuses, at the
-// tick after the one that 20 refuses, or at the horizon.
+// The ticks in turn, until one is refused or the horizon is reached. Values that still last end at the tick that 19 refuses, at the tick
+// after the one that 20 refuses, or at the horizon.
 use listing::Step;
 use listing::end_all;
 use listing::list;

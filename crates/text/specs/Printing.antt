@@ -1,4 +1,4 @@
--- Document 01, "The program and one complete run", with document 02's W-201 and W-204: what is printed of an answer and the listing's bytes.
+-- Document 01, "The program and one complete run", with document 02's W-201 and W-204: what is printed of an answer and its listing.
 use mathlib.Core.List.{List, [], _∷_, _++_}
 use Prim.Native.Nat.{ℕ, _*_}
 use Rattle.level.specs.Level.{printed}

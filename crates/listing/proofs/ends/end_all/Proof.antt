@@ -1,15 +1,15 @@
 -- `listing::ends::end_all` meets its contract. The loop's invariant: the last records of the nodes passed have the end. Assumes nothing.
 use borrow.Author.Needs.{needs}
 use mathlib.Core.List.{List}
-use mathlib.Core.Path.{_≡_, refl, ap, _∙_}
+use mathlib.Core.Path.{_≡_, refl, _∙_}
 use Prim.Native.Nat.{ℕ, _≤_, _-_}
 use native.Mathlib.Numerals.{add-one}
 use native.Mathlib.Omega.{arith}
 use lib.ListN.{length}
 use Rattle.network.specs.Listing.{Record}
 use Rattle.network.specs.Buffer.{bufferAfter}
-use Rattle.listing.specs.Ends.{withEnds, Holding}
-use Rattle.listing.proofs.Holding.{place-known, endsFor, all-have-end}
+use Rattle.listing.specs.Ends.{withEnds, endsFor, Holding}
+use Rattle.listing.proofs.Holding.{place-known}
 use Rattle.listing.proofs.ends.end_all.Statement.{statement}
 use Rattle.listing.proofs.ends.end_all.Tie as tie
 
@@ -66,11 +66,10 @@ same-length : tie.Need-same-length Inv-loop μ-loop
 same-length c = c .before .loop .inv .1
 
 returns : tie.Need-returns Inv-loop μ-loop
-returns c buffer records count H among =
+returns c buffer records count H =
     let loop = c .before .loop in
-    let a = c .before .before .before .args in
-    let all : loop .k ≡ a .n = omega arith in
-    loop .inv .2 buffer records count H ∙ ap (λ rs. bufferAfter rs buffer) (rw all (all-have-end (a .watched .now) (a .end) (a .n) records among))
+    let all : loop .k ≡ c .before .before .before .args .n = omega arith in
+    rw (← all) (loop .inv .2 buffer records count H)
 
 pub end-all-spec : {M : Type 1} → statement M
 end-all-spec =

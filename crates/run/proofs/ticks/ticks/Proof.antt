@@ -7,7 +7,7 @@ use native.Mathlib.Omega.{arith}
 use Prim.Native.Nat.{_-_}
 use Rattle.sheet.specs.Sheet.{Sheet}
 use Rattle.run.specs.Ready.{kept, Ready}
-use Rattle.run.proofs.BetweenTicks.{BetweenTicks, start, workable, among-watched, full-holding, told-full, crowded-holding, told-crowded, few-left, told-next, reached, few-records, same-length-so-far}
+use Rattle.run.proofs.BetweenTicks.{BetweenTicks, start, workable, full-holding, told-full, crowded-holding, told-crowded, few-left, told-next, reached, few-records, same-length-so-far}
 use Rattle.run.proofs.ticks.ticks.Statement.{statement}
 use Rattle.run.proofs.ticks.ticks.Tie as tie
 
@@ -68,7 +68,7 @@ returns c S R =
     let worked = c .before .before .before .before .before .before .before .before .before .before .before .before .before .before .work .ensures in
     let step = c .before .before .before .before .before .enum-told .given .1 in
     let listed = c .before .before .before .before .before .before .before .before .before .list .ensures _ _ (G .holding) in
-    told-full R G below worked _ _ _ step listed _ (c .before .before .end-all .ensures _ _ _ (full-holding R G below worked _ _ _ step listed) (among-watched R _ (G .within)))
+    told-full R G below worked _ _ _ step listed _ (c .before .before .end-all .ensures _ _ _ (full-holding R G below worked _ _ _ step listed))
 
 enum-known-step : tie.Need-enum-known-step Inv-loop μ-loop
 enum-known-step c = search needs
@@ -94,7 +94,7 @@ returns-2 c S R =
     let step = c .before .before .before .before .before .before .step .given .1 in
     let listed = c .before .before .before .before .before .before .before .before .before .before .list .ensures _ _ (G .holding) in
     let held = crowded-holding R G below worked _ _ _ step listed in
-    told-crowded R G below worked _ _ _ step listed _ (rw add-one at (c .before .before .end-all2 .ensures _ _ _ held (among-watched R _ below)))
+    told-crowded R G below worked _ _ _ step listed _ (rw add-one at (c .before .before .end-all2 .ensures _ _ _ held))
 
 enum-known-step-2 : tie.Need-enum-known-step-2 Inv-loop μ-loop
 enum-known-step-2 c = search needs
@@ -125,7 +125,7 @@ same-length-3 c =
 returns-3 : tie.Need-returns-3 Inv-loop μ-loop
 returns-3 c S R =
     let G = c .before .before .before .before .before .before .loop .inv .1 S R in
-    reached R G (c .before .before .before .before .before .loop-test .left) _ (c .before .before .end-all3 .ensures _ _ _ (G .holding) (among-watched R _ (G .within)))
+    reached R G (c .before .before .before .before .before .loop-test .left) _ (c .before .before .end-all3 .ensures _ _ _ (G .holding))
 
 pub ticks-spec : {M : Type 1} → statement M
 ticks-spec =
