@@ -5,6 +5,7 @@ use mathlib.Core.List.{List, [], _++_, List·Memᴰ}
 use mathlib.Core.Path.{_≡_, refl, sym, ap, _∙_, subst}
 use Prim.Native.Nat.{ℕ, zero, suc, _+_, _*_, _<_, _≤_}
 use native.Mathlib.Decide.{ℕ-discrete}
+use native.Mathlib.Numerals.{add-one}
 use native.Mathlib.Omega.{arith}
 use lib.ListN.{length, take, replicate, length-append, length-take}
 use Rattle.sheet.specs.declared.Event.{Event}
@@ -241,9 +242,9 @@ module _ {S : Sheet} {table delays times nodes levels watched : List ℕ} {st : 
           pub crowded-holding : Holding buffer (below (suc t)) count now′ places′
           crowded-holding = all-held (crowded-step .2)
 
-          pub told-crowded : (last : List ℕ) → last ≡ bufferAfter (withEnds (endsFor watched (suc t) total) (below (suc t))) buffer → Ended buffer last (refused 20 t count)
+          pub told-crowded : (last : List ℕ) → last ≡ bufferAfter (withEnds (endsFor watched (t + 1) total) (below (suc t))) buffer → Ended buffer last (refused 20 t count)
           told-crowded last bytes =
-              ended buffer last count (suc t) (refused 20 t) h (crowded-holding .counted) bytes
+              ended buffer last count (suc t) (refused 20 t) h (crowded-holding .counted) (bytes ∙ ap (λ k. bufferAfter (withEnds (endsFor watched k total) (below (suc t))) buffer) (add-one t))
               (crowded (R .accepted) horizon st (R .begun) (length buffer) t h (G .passed) (rw below-length (crowded-step .0)) (rw pending-now (crowded-step .1)))
 
           -- the count is a number of 32 bits

@@ -94,7 +94,7 @@ returns-2 c S R =
     let step = c .before .before .before .before .before .before .step .given .1 in
     let listed = c .before .before .before .before .before .before .before .before .before .before .list .ensures _ _ (G .holding) in
     let held = crowded-holding R G below worked _ _ _ step listed in
-    told-crowded R G below worked _ _ _ step listed _ (rw add-one at (c .before .before .end-all2 .ensures _ _ _ held))
+    told-crowded R G below worked _ _ _ step listed _ (c .before .before .end-all2 .ensures _ _ _ held)
 
 enum-known-step-2 : tie.Need-enum-known-step-2 Inv-loop μ-loop
 enum-known-step-2 c = search needs
