@@ -2,14 +2,17 @@
 -- exists wherever a run begins. Assumes nothing.
 use mathlib.Core.Bool.{false}
 use mathlib.Core.List.{List}
-use mathlib.Core.Logic.{_↔_}
+use mathlib.Core.Logic.{_↔_, _⊎_, ⊎-elim}
 use mathlib.Core.Path.{_≡_, refl, sym, subst}
-use Prim.Native.Nat.{ℕ}
+use native.Mathlib.Omega.{arith}
+use Prim.Native.Nat.{ℕ, suc, _<_}
 use Rattle.sheet.specs.declared.Edition.{Edition}
 use Rattle.sheet.specs.Layout.{sheetOf}
 use Rattle.sheet.specs.Outcome.{finished, refused}
+use Rattle.sheet.specs.Sheet.{Sheet}
 use Rattle.format.specs.Accepted.{Accepted, Known}
 use Rattle.network.specs.Demand2.{Lists, RunOf}
+use Rattle.network.specs.Ends.{endedListing}
 use Rattle.network.specs.Run.{Written, cellsOf, ran}
 use Rattle.network.specs.RunConditions.{Begins, RunCondition}
 use Rattle.network.specs.Satisfied.{Satisfied}
@@ -17,7 +20,7 @@ use Rattle.network.specs.Timeline.{Cells}
 use Rattle.format.proofs.Accepted.{accepted}
 use Rattle.format.proofs.Theorems.{no-refusal}
 use Rattle.network.proofs.Listing.{listing-of}
-use Rattle.network.proofs.RunConditions.{FinishedRun, finished-run, never-15, run-conditions}
+use Rattle.network.proofs.RunConditions.{FinishedRun, finished-run, refused-tick, never-15, run-conditions}
 use Rattle.network.proofs.Runs.{own-cells}
 
 module _ {E : Edition} (known : Known E) (s : List ℕ) (horizon : ℕ) where
@@ -29,12 +32,28 @@ module _ {E : Edition} (known : Known E) (s : List ℕ) (horizon : ℕ) where
       record {
         answers = conditions;
         lists = λ count e.
-            subst (Lists (sheetOf E s) c horizon) (sym (run count e .listed)) (listing-of (sheetOf E s) (sheet-accepted (run count e .begins)) c horizon);
+            below (run count e .begins) horizon (run count e .listed);
         counts = λ count e. run count e .counted;
+        left-by-19 = λ t count e.
+            let (begun, left) = tick 19 t count (omega arith) e in
+            ⊎-elim (λ l. below begun t (l .1)) (λ l. absurd (omega (arith, l .0))) left;
+        left-by-20 = λ t count e.
+            let (begun, left) = tick 20 t count (omega arith) e in
+            ⊎-elim (λ l. absurd (omega (arith, l .0))) (λ l. below begun (suc t) (l .1)) left;
       }
     where
+      S : Sheet
+      S = sheetOf E s
+
       conditions : (w : Written) → (ran E s horizon bytes ≡ w) ↔ RunCondition E s c horizon bytes w
       conditions = run-conditions known s horizon bytes c satisfied
+
+      tick : (n t count : ℕ) → 18 < n → ran E s horizon bytes .answer ≡ refused n t count
+          → Begins E s horizon × (((n ≡ 19) × (ran E s horizon bytes .records ≡ endedListing S c t)) ⊎ ((n ≡ 20) × (ran E s horizon bytes .records ≡ endedListing S c (suc t))))
+      tick = refused-tick known (ran E s horizon bytes) (conditions (ran E s horizon bytes) .0 refl)
+
+      below : Begins E s horizon → (bound : ℕ) → ran E s horizon bytes .records ≡ endedListing S c bound → Lists S c bound (ran E s horizon bytes .records)
+      below begun bound e = subst (Lists S c bound) (sym e) (listing-of S (sheet-accepted begun) c bound)
 
       run : (count : ℕ) → ran E s horizon bytes .answer ≡ finished count → FinishedRun E s c horizon bytes count (ran E s horizon bytes .records)
       run = finished-run (ran E s horizon bytes) (conditions (ran E s horizon bytes) .0 refl)

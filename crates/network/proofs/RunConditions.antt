@@ -17,10 +17,10 @@ use Rattle.sheet.specs.Refusal.{checked}
 use Rattle.sheet.specs.Sheet.{Sheet}
 use Rattle.sheet.specs.declared.Edition.{Edition}
 use Rattle.format.specs.Accepted.{Known}
-use Rattle.format.specs.Condition.{Condition}
+use Rattle.format.specs.Condition.{Condition, FirstCondition}
 use Rattle.format.proofs.Accepted.{accepted}
 use Rattle.format.proofs.Table.{strict-at-15}
-use Rattle.format.proofs.Theorems.{refusals, no-refusal}
+use Rattle.format.proofs.Theorems.{refusals, no-refusal, no-other-answer}
 use Rattle.network.specs.Buffer.{room}
 use Rattle.network.specs.Ends.{Ended, endedListing}
 use Rattle.network.specs.Listing.{listing, pending}
@@ -111,6 +111,16 @@ pub record FinishedRun (E : Edition) (s : List ℕ) (c : Cells) (horizon bytes c
 count-of : {m n : ℕ} → finished m ≡ finished n → m ≡ n
 count-of e = ap (λ (o : Outcome). elim o [ finished k ↦ k | refused a b c ↦ 0 ]) e
 
+-- the greatest number of a sheet's refusals
+sheet-number : {E : Edition} → Known E → (s : List ℕ) {n p : ℕ} → FirstCondition E s n p → n ≤ 18
+sheet-number {E} known s {n} {p} r = ⊎-elim (λ e. absurd (finished≢refused (sym e ∙ refusals false known s n p .1 r))) listed (no-other-answer false known s)
+  where
+    listed : ((m : ℕ) × (q : ℕ) × (2 ≤ m) × (m ≤ 18) × (checked E s ≡ refused m q 0)) → n ≤ 18
+    listed (m, q, l, h, e) =
+        let same : refused m q 0 ≡ refused n p 0 = sym e ∙ refusals false known s n p .1 r in
+        let i : m ≡ n = cc in
+        omega (arith, h, i)
+
 module _ {E : Edition} {s : List ℕ} {c : Cells} {horizon bytes : ℕ} where
   pub finished-run : (w : Written) → RunCondition E s c horizon bytes w → (count : ℕ) → w .answer ≡ finished count
       → FinishedRun E s c horizon bytes count (w .records)
@@ -119,6 +129,19 @@ module _ {E : Edition} {s : List ℕ} {c : Cells} {horizon bytes : ℕ} where
   finished-run w (no-room t f o) count e = absurd (finished≢refused (sym e))
   finished-run w (crowded t f r p) count e = absurd (finished≢refused (sym e))
   finished-run w (whole b all) count e = record { begins = b; passes = all; listed = refl; counted = sym (count-of e) }
+
+  -- a number above those of a sheet's refusals: the tick's, with the records below the bound of its answer
+  pub refused-tick : Known E → (w : Written) → RunCondition E s c horizon bytes w → (n t count : ℕ) → 18 < n → w .answer ≡ refused n t count
+      → Begins E s horizon × (((n ≡ 19) × (w .records ≡ endedListing (sheetOf E s) c t)) ⊎ ((n ≡ 20) × (w .records ≡ endedListing (sheetOf E s) c (suc t))))
+  refused-tick known w (horizon-outside h) n t count above e = absurd (let i : 1 ≡ n = cc in omega arith)
+  refused-tick known w (sheet-refused {n = m} some few r) n t count above e = absurd (let i : m ≡ n = cc in omega (arith, sheet-number known s r))
+  refused-tick known w (no-room u f o) n t count above e =
+      let tick : u ≡ t = cc in
+      (f .begins, inl (cc, ap (endedListing (sheetOf E s) c) tick))
+  refused-tick known w (crowded u f r p) n t count above e =
+      let tick : u ≡ t = cc in
+      (f .begins, inr (cc, ap (λ u. endedListing (sheetOf E s) c (suc u)) tick))
+  refused-tick known w (whole b all) n t count above e = absurd (finished≢refused e)
 
   -- no condition of a run is that of 15
   pub never-15 : (w : Written) → RunCondition E s c horizon bytes w → (place count : ℕ) → w .answer ≡ refused 15 place count → ⊥

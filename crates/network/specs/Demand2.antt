@@ -4,9 +4,9 @@ use lib.ListN.{length, getD}
 use mathlib.Core.List.{List, List·Memᴰ}
 use mathlib.Core.Logic.{_↔_}
 use mathlib.Core.Path.{_≡_}
-use Prim.Native.Nat.{ℕ, _<_, _≤_}
+use Prim.Native.Nat.{ℕ, suc, _<_, _≤_}
 use Rattle.sheet.specs.declared.Edition.{Edition}
-use Rattle.sheet.specs.Outcome.{finished}
+use Rattle.sheet.specs.Outcome.{finished, refused}
 use Rattle.sheet.specs.Sheet.{Sheet}
 use Rattle.sheet.specs.Layout.{sheetOf}
 use Rattle.network.specs.Timeline.{Cells}
@@ -15,9 +15,9 @@ use Rattle.network.specs.Ends.{Ended, endedKey}
 use Rattle.network.specs.Run.{Written, ran}
 use Rattle.network.specs.RunConditions.{RunCondition}
 
--- A watched node's first value, or its change, at a tick below the horizon, with that cell's value.
-pub record Shown (S : Sheet) (c : Cells) (horizon : ℕ) (r : Record) : Type 0 where
-  pub below : r .tick < horizon
+-- A watched node's first value, or its change, at a tick below a bound, with that cell's value.
+pub record Shown (S : Sheet) (c : Cells) (bound : ℕ) (r : Record) : Type 0 where
+  pub below : r .tick < bound
   pub watched : List·Memᴰ (r .node) (S .watched)
   pub change : T (changes c (r .node) (r .tick))
   pub value : r .value ≡ c (r .tick) (r .node)
@@ -30,14 +30,14 @@ pub record Lasts (c : Cells) (bound v t end : ℕ) : Type 0 where
   pub change : end < bound → T (changes c v end)
 
 -- such a record, with the end that the timelines give
-pub record ShownUntil (S : Sheet) (c : Cells) (horizon : ℕ) (r : Ended) : Type 0 where
-  pub start : Shown S c horizon (r .start)
-  pub end : Lasts c horizon (r .start .node) (r .start .tick) (r .end)
+pub record ShownUntil (S : Sheet) (c : Cells) (bound : ℕ) (r : Ended) : Type 0 where
+  pub start : Shown S c bound (r .start)
+  pub end : Lasts c bound (r .start .node) (r .start .tick) (r .end)
 
 -- A listing has exactly these records; they rise by tick, then by node, so none stands twice.
-pub record Lists (S : Sheet) (c : Cells) (horizon : ℕ) (records : List Ended) : Type 0 where
-  pub shown : (r : Ended) → List·Memᴰ r records → ShownUntil S c horizon r
-  pub all : (r : Ended) → ShownUntil S c horizon r → List·Memᴰ r records
+pub record Lists (S : Sheet) (c : Cells) (bound : ℕ) (records : List Ended) : Type 0 where
+  pub shown : (r : Ended) → List·Memᴰ r records → ShownUntil S c bound r
+  pub all : (r : Ended) → ShownUntil S c bound r → List·Memᴰ r records
   pub rise : (j k : ℕ) → j < k → k < length records → (d : Ended) → endedKey (getD records j d) < endedKey (getD records k d)
 
 -- What a run of the bytes s answers and writes, by the cells c of a set of timelines that satisfies the sheet.
@@ -48,3 +48,8 @@ pub record RunOf (e : Edition) (s : List ℕ) (horizon bytes : ℕ) (c : Cells) 
   pub lists : (count : ℕ) → ran e s horizon bytes .answer ≡ finished count
       → Lists (sheetOf e s) c horizon (ran e s horizon bytes .records)
   pub counts : (count : ℕ) → ran e s horizon bytes .answer ≡ finished count → count ≡ length (ran e s horizon bytes .records)
+  -- 19 leaves exactly those below the tick that it refuses, 20 those below the tick after it; values that still last end there
+  pub left-by-19 : (t count : ℕ) → ran e s horizon bytes .answer ≡ refused 19 t count
+      → Lists (sheetOf e s) c t (ran e s horizon bytes .records)
+  pub left-by-20 : (t count : ℕ) → ran e s horizon bytes .answer ≡ refused 20 t count
+      → Lists (sheetOf e s) c (suc t) (ran e s horizon bytes .records)
