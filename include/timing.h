@@ -29,7 +29,7 @@ enum timing_number {
     TIMING_ENDS_INSIDE = 2,           /* the bytes end inside a count or record */
     TIMING_OUTSIDE_RANGE = 3,         /* a count outside its range */
     TIMING_BYTE_ABOVE = 4,            /* a node: byte above 4 */
-    TIMING_KIND_ABOVE = 5,            /* a module: kind above 9 */
+    TIMING_KIND_ABOVE = 5,            /* a module: kind above the edition's greatest */
     TIMING_PARAMETER_NOT_ALLOWED = 6, /* a module: parameter not allowed */
     TIMING_WRONG_WIRING = 7,          /* a module: output or used input is no node, or unused input not 0 */
     TIMING_DELAY_ABOVE = 8,           /* a module: delay above 10,000 */
@@ -91,8 +91,9 @@ enum timing_value {
 #define TIMING_GREATEST_HORIZON 1000000
 /* the changes that may be pending after a tick: */
 #define TIMING_PENDING_LIMIT 4096
-/* bytes that no accepted sheet passes: */
+/* bytes that no accepted sheet of the first edition passes, and of the second: */
 #define TIMING_LONGEST_SHEET 8449
+#define TIMING_LONGEST_SHEET_2 8704
 /* bytes that no sentence passes: */
 #define TIMING_LONGEST_SENTENCE 200
 
@@ -116,22 +117,32 @@ enum timing_value {
  */
 
 /*
- * The bytes of stack that a call uses below its caller's frame, whatever it is given: measured (214.2,
- * 234.2 and 3.2 KiB) and rounded up, the first two to 16 KiB. A thread needs some for itself besides.
- * A strict check uses no more than a check is said to.
+ * The bytes of stack that a call uses below its caller's frame, whatever it is given: measured (214.7,
+ * 231.8 and 3.1 KiB) and rounded up, the first two to 16 KiB. A thread needs some for itself besides.
+ * A strict check uses no more than a check is said to, and the second edition's calls use no more than the
+ * first's are said to.
  */
 #define TIMING_CHECK_STACK 229376
 #define TIMING_RUN_STACK 245760
 #define TIMING_DESCRIBE_STACK 4096
 
+/*
+ * A sheet has one of two editions. In the first a module's record has 7 bytes and its kind is 0 to 9. In the
+ * second it has 8 bytes, the third input standing before the delay, and its kind is 0 to 15: 10 to 14 are
+ * AND, OR, XOR, NAND and NOR of three inputs, 15 is a multiplexer (document 02, W-205). The calls that end in
+ * _2 take a sheet of the second edition; what is said of the others holds of them.
+ */
+
 /* Checks the sheet without running it. The count is always 0. A run refuses the same sheets. */
 void timing_check(const uint8_t *sheet, size_t length, uint32_t answer[3]);
+void timing_check_2(const uint8_t *sheet, size_t length, uint32_t answer[3]);
 
 /*
  * Checks the sheet and that each of its inputs has an event at tick 0. Its answer is that of timing_check, or
  * TIMING_NO_FIRST_EVENT where one has none and nothing else is refused up to the end of the drive.
  */
 void timing_check_strict(const uint8_t *sheet, size_t length, uint32_t answer[3]);
+void timing_check_strict_2(const uint8_t *sheet, size_t length, uint32_t answer[3]);
 
 /*
  * Runs the sheet to the horizon and writes the records to the front of the listing, rising by tick
@@ -146,6 +157,8 @@ void timing_check_strict(const uint8_t *sheet, size_t length, uint32_t answer[3]
  */
 void timing_run(const uint8_t *sheet, size_t length, uint32_t horizon, uint8_t *listing, size_t bytes,
                 uint32_t answer[3]);
+void timing_run_2(const uint8_t *sheet, size_t length, uint32_t horizon, uint8_t *listing, size_t bytes,
+                  uint32_t answer[3]);
 
 /*
  * Describes an answer, given by its three words, as a sentence in plain words: what is wrong, the place

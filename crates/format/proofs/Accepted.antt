@@ -19,7 +19,7 @@ use Rattle.sheet.specs.Sheet.{Sheet, nodeCount, moduleCount, moduleOf, outputOf
 use Rattle.sheet.specs.Layout.{countSize, nodesCounted, nodeAt, modulesCounted, moduleAt, eventsCounted, eventAt, watchedPlace, watchedCounted, watchedAt, sheetEnd, sheetOf}
 use Rattle.sheet.specs.Wiring.{isInput, drivenAtStart}
 use Rattle.sheet.specs.Refusal.{key, checkedBy, checked, checkedStrictly}
-use Rattle.format.specs.Accepted.{Driven, Input, SoundModule, SoundEvent, Accepted, Known, the-first, AcceptedIn, DrivenAtStart, StrictlyAcceptedIn}
+use Rattle.format.specs.Accepted.{Driven, Input, SoundModule, SoundEvent, Accepted, Known, the-first, the-second, AcceptedIn, DrivenAtStart, StrictlyAcceptedIn}
 use Rattle.format.specs.Condition.{Count, of-nodes, of-modules, of-drive, of-watched, Part, a-count, a-node, a-module, an-event, a-watched, Miswired, output-no-node, input-no-node, unused-not-0, NotAbove, not-above, ConditionBy, ends-inside, outside-range, byte-above, kind-above, parameter-not-allowed, wrong-wiring, delay-above, already-driven, driven-or-not, tick-above, not-an-input, value-above, not-above-before, no-first-event, wrong-watched, left-over, on-loop}
 use Rattle.sheet.proofs.Tests.{decided, at-most}
 use Rattle.sheet.proofs.Parts.{node-count, node-byte, module-count, module-of, event-count, event-of, watched-count, watched-node}
@@ -29,9 +29,11 @@ use Rattle.format.proofs.Checked.{finished-iff}
 -- a known edition's module records have some size, and its kinds have rules
 pub some-size : {E : Edition} → Known E → 0 < E .size
 some-size the-first = lit< tt
+some-size the-second = lit< tt
 
 pub with-rules : {E : Edition} → Known E → E .greatest ≤ lastKind
 with-rules the-first = lit≤ tt
+with-rules the-second = lit≤ tt
 
 other-than-4 : {a : ℕ} → a ≤ inputByte → (a ≡ inputByte → ⊥) → a ≤ lastValue
 other-than-4 h d = omega arith

@@ -7,7 +7,7 @@ use native.Mathlib.Omega.{arith}
 use lib.ListN.{take}
 use Rattle.sheet.specs.declared.Edition.{Edition}
 use Rattle.sheet.specs.Sheet.{Sheet}
-use Rattle.format.specs.Encode.{wordBytes, longBytes, moduleBytes, eventBytes, allBytes, encode, Bytes, OneByteEach}
+use Rattle.format.specs.Encode.{wordBytes, longBytes, roomForInputs, moduleBytes, eventBytes, allBytes, encode, Bytes, OneByteEach}
 
 infixr 30 _then_
 infixl 20 _joined_
@@ -55,7 +55,7 @@ encode-bytes E sheet h =
     (word _
     joined members (sheet .nodes) (h .nodes)
     joined word _
-    joined records (moduleBytes E) (sheet .modules) (λ m k. let f = h .modules m k in taken (E .size - 2) (f .0 then f .1 then f .2 then f .3 then f .4 then none) joined word (m .delay))
+    joined records (moduleBytes E) (sheet .modules) (λ m k. let f = h .modules m k in f .0 then f .1 then f .2 then taken (roomForInputs E) (f .3 then f .4 then f .5 then none) joined word (m .delay))
     joined word _
     joined records eventBytes (sheet .drive) (λ e k. let f = h .drive e k in long _ joined f .0 then f .1 then none)
     joined word _

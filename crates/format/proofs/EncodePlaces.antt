@@ -29,7 +29,7 @@ module _ (E : Edition) (sheet : Sheet) where
   nodes-stand = before-section (encode E sheet) _ (allBytes (moduleBytes E) (sheet .modules)) (length (sheet .modules)) modules-stand
 
 -- each section's place, from the first section on: it follows from the counts before it; the default d is never met
-module _ {E : Edition} (known : Known E) (sheet : Sheet) (fits : Encodable sheet) where
+module _ {E : Edition} (known : Known E) (sheet : Sheet) (fits : Encodable E sheet) where
   nodes-section : Section (encode E sheet) [] (sheet .nodes) (length (sheet .nodes)) 0
   nodes-section = section-read _ _ _ _ (nodes-stand E sheet) 0 refl (fits .nodes)
 
@@ -50,7 +50,7 @@ module _ {E : Edition} (known : Known E) (sheet : Sheet) (fits : Encodable sheet
 
   pub module-of : (m : ℕ) (d : Module) → m < length (sheet .modules) → moduleAt E (encode E sheet) m ≡ getD (sheet .modules) m d
   module-of m d b =
-      module-read known (encode E sheet) _ _ (fits .delays _ (getD-mem (sheet .modules) m d b))
+      module-read known (encode E sheet) _ _ (fits .delays _ (getD-mem (sheet .modules) m d b)) (fits .room _ (getD-mem (sheet .modules) m d b))
       (record-stands (encode E sheet) (E .size) (moduleBytes E) (module-length known) _ (sheet .modules) d m b (modules-section .there))
 
   drive-place : length (modulesBytes E sheet) ≡ drivePlace E (encode E sheet)

@@ -2,20 +2,21 @@
 use mathlib.Core.Bool.{Bool, true, false, false≢true}
 use mathlib.Core.List.{List}
 use mathlib.Core.Logic.{_↔_, _⊎_}
-use mathlib.Core.Path.{_≡_, refl}
-use Prim.Native.Nat.{ℕ, _<_, _≤_}
+use mathlib.Core.Path.{_≡_, refl, ap}
+use Prim.Native.Nat.{ℕ, _+_, _*_, _<_, _≤_}
+use native.Mathlib.Nat.{mul-le-mul-left}
 use native.Mathlib.Omega.{arith}
 use borrow.Author.Tests.{ltb-true, ltb-false}
-use lib.Dec.{ltb}
-use lib.ListN.{length}
+use lib.Dec.{ltb, lit≤}
+use lib.ListN.{length, List·getD-eq-default}
 use Rattle.sheet.specs.declared.Edition.{Edition}
-use Rattle.sheet.specs.Sheet.{Sheet, eventCount, eventOf}
-use Rattle.sheet.specs.Layout.{firstEdition, sheetOf}
+use Rattle.sheet.specs.Sheet.{Sheet, noModule, moduleOf, eventCount, eventOf}
+use Rattle.sheet.specs.Layout.{firstEdition, secondEdition, modulesCounted, sheetOf}
 use Rattle.sheet.specs.Outcome.{finished, refused}
 use Rattle.sheet.specs.Loop.{LeastOnLoop}
 use Rattle.sheet.specs.Refusal.{bytesRows, first, checkedBy, checked, checkedStrictly}
-use Rattle.sheet.proofs.Parts.{node-count, module-count, event-count, watched-count}
-use Rattle.format.specs.Accepted.{Before, Accepted, Known, the-first, AcceptedIn, StrictlyAcceptedIn}
+use Rattle.sheet.proofs.Parts.{node-count, module-count, module-of, event-count, watched-count}
+use Rattle.format.specs.Accepted.{Before, Accepted, Known, the-first, the-second, AcceptedIn, StrictlyAcceptedIn}
 use Rattle.format.specs.Encode.{encode, Bytes, Encodable, OneByteEach}
 use Rattle.format.specs.Condition.{ConditionBy, FirstConditionBy}
 use Rattle.format.proofs.Checked.{answers, finished-iff, refused-first, refused-met}
@@ -69,28 +70,49 @@ pub written-as-read : {E : Edition} → Known E → (s : List ℕ) → Bytes s �
 written-as-read {E} known s bytes e = reading-encoded known s bytes (accepted E known s e)
 
 -- A sheet whose numbers fit is the one read from what it is written as, which is bytes.
-pub read-as-written : {E : Edition} → Known E → (sheet : Sheet) → Encodable sheet → OneByteEach sheet → (sheetOf E (encode E sheet) ≡ sheet) × Bytes (encode E sheet)
+pub read-as-written : {E : Edition} → Known E → (sheet : Sheet) → Encodable E sheet → OneByteEach sheet → (sheetOf E (encode E sheet) ≡ sheet) × Bytes (encode E sheet)
 read-as-written {E} known sheet fits small = (read-encode known sheet fits, encode-bytes E sheet small)
 
 -- The sheet in any bytes has numbers that fit.
-pub read-fits : {E : Edition} → Known E → (s : List ℕ) → Bytes s → Encodable (sheetOf E s) × OneByteEach (sheetOf E s)
+pub read-fits : {E : Edition} → Known E → (s : List ℕ) → Bytes s → Encodable E (sheetOf E s) × OneByteEach (sheetOf E s)
 read-fits known s bytes = (encodable known s bytes, one-byte-each known s bytes)
 
--- Document 01, "The program", gives 8,456 bytes, as many as the counts' ranges allow. 256 modules leave no input and so no event:
--- no accepted sheet has more than 8,449.
-pub longest-sheet : (s : List ℕ) → checked firstEdition s ≡ finished 0 → length s ≤ 8449
-longest-sheet s c = by (ltb 0 (eventCount (sheetOf firstEdition s))) refl
+-- 256 modules leave no input and so no event: with events there are 255 at most.
+longest : {E : Edition} → Known E → (s : List ℕ) → checked E s ≡ finished 0 → length s ≤ 6664 + E .size * 255
+longest {E} known s c = by (ltb 0 (eventCount (sheetOf E s))) refl
   where
-    acc : AcceptedIn firstEdition s
-    acc = accepted firstEdition the-first s c
+    acc : AcceptedIn E s
+    acc = accepted E known s c
 
-    a : Accepted (sheetOf firstEdition s)
+    a : Accepted (sheetOf E s)
     a = acc .sheet
 
-    by : (b : Bool) → ltb 0 (eventCount (sheetOf firstEdition s)) ≡ b → length s ≤ 8449
+    short : {E : Edition} → Known E → E .size ≤ 8
+    short the-first = lit≤ tt
+    short the-second = lit≤ tt
+
+    by : (b : Bool) → ltb 0 (eventCount (sheetOf E s)) ≡ b → length s ≤ 6664 + E .size * 255
     by true e =
-        let fewer = fewer-modules (sheetOf firstEdition s) a (ltb-true 0 (eventCount (sheetOf firstEdition s)) e) in
-        omega (arith, acc .whole, a .nodes, node-count firstEdition s, fewer, module-count firstEdition s, a .events, event-count firstEdition s, a .watched, watched-count firstEdition s)
+        let fewer : modulesCounted s ≤ 255 = omega (arith, a .nodes, fewer-modules (sheetOf E s) a (ltb-true 0 (eventCount (sheetOf E s)) e), module-count E s) in
+        omega (arith, acc .whole, a .nodes, node-count E s, mul-le-mul-left (E .size) fewer, a .events, event-count E s, a .watched, watched-count E s)
     by false e =
-        let none = ltb-false 0 (eventCount (sheetOf firstEdition s)) e in
-        omega (arith, acc .whole, a .nodes, node-count firstEdition s, a .modules, module-count firstEdition s, none, event-count firstEdition s, a .watched, watched-count firstEdition s)
+        let none = ltb-false 0 (eventCount (sheetOf E s)) e in
+        let few : modulesCounted s ≤ 256 = omega (arith, a .modules, module-count E s) in
+        omega (arith, acc .whole, a .nodes, node-count E s, mul-le-mul-left (E .size) few, short known, none, event-count E s, a .watched, watched-count E s)
+
+-- Document 01, "The program", gives 8,456 bytes, as many as the counts' ranges allow; the second edition allows 256 more. No accepted
+-- sheet has more than 8,449, and 8,704.
+pub longest-sheet : (s : List ℕ) → checked firstEdition s ≡ finished 0 → length s ≤ 8449
+longest-sheet = longest the-first
+
+pub longest-sheet-2 : (s : List ℕ) → checked secondEdition s ≡ finished 0 → length s ≤ 8704
+longest-sheet-2 = longest the-second
+
+-- A sheet of the first edition is one without third inputs.
+pub no-third : (s : List ℕ) (m : ℕ) → moduleOf (sheetOf firstEdition s) m .third ≡ 0
+no-third s m = by (ltb m (modulesCounted s)) refl
+  where
+    by : (b : Bool) → ltb m (modulesCounted s) ≡ b → moduleOf (sheetOf firstEdition s) m .third ≡ 0
+    by true e = ap (λ r. r .third) (module-of firstEdition s m (ltb-true m (modulesCounted s) e))
+    by false e =
+        ap (λ r. r .third) (List·getD-eq-default (sheetOf firstEdition s .modules) noModule {n = m} (omega (arith, ltb-false m (modulesCounted s) e, module-count firstEdition s)))

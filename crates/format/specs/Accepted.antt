@@ -13,7 +13,7 @@ use Rattle.sheet.specs.Limits.{leastNodes, mostNodes, mostModules, mostEvents, 
 use Rattle.sheet.specs.Sheet.{Sheet, nodeCount, nodeByte, moduleCount, moduleOf, outputOf, eventCount, eventOf, watchedCount, watchedNode}
 use Rattle.sheet.specs.Wiring.{usedInputs, unusedInputs}
 use Rattle.sheet.specs.Loop.{OnLoop}
-use Rattle.sheet.specs.Layout.{firstEdition, sheetEnd, sheetOf}
+use Rattle.sheet.specs.Layout.{firstEdition, secondEdition, sheetEnd, sheetOf}
 use Rattle.sheet.specs.Refusal.{greatestParameter, key}
 
 -- a module drives the node
@@ -73,6 +73,7 @@ pub record Accepted (S : Sheet) : Type 0 where
 -- the editions of the sheet that there are
 pub data Known : Edition → Type 0 where
   the-first : Known firstEdition
+  the-second : Known secondEdition
 
 -- Bytes that a check does not refuse in an edition: such a sheet stands in them, its kinds are the edition's,
 -- and no byte is missing and none is left over.

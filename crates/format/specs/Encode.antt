@@ -1,7 +1,8 @@
 -- Document 01, "The sheet", the other way: a sheet's bytes. A count is two bytes; numbers of several bytes have the low byte first.
 use mathlib.Core.List.{List, [], _∷_, _++_, List·Memᴰ}
+use mathlib.Core.Path.{_≡_}
 use Prim.Native.Nat.{ℕ, _-_, _/_, _%_, _^_, _<_}
-use lib.ListN.{length, getD, take}
+use lib.ListN.{length, getD, take, drop}
 use Rattle.sheet.specs.declared.Edition.{Edition}
 use Rattle.sheet.specs.declared.Module.{Module}
 use Rattle.sheet.specs.declared.Event.{Event}
@@ -14,9 +15,12 @@ wordBytes n = n % 256 ∷ n / 256 % 256 ∷ []
 abbrev pub longBytes : ℕ → List ℕ
 longBytes n = n % 256 ∷ n / 256 % 256 ∷ n / 65536 % 256 ∷ n / 16777216 % 256 ∷ []
 
--- as many of the inputs as the edition's record has room for
+-- as many of the inputs as the edition's record has room for, beside kind, parameter, output and delay
+abbrev pub roomForInputs : Edition → ℕ
+roomForInputs e = e .size - 5
+
 abbrev pub moduleBytes : Edition → Module → List ℕ
-moduleBytes e m = take (e .size - 2) (m .kind ∷ m .parameter ∷ m .output ∷ inputs m) ++ wordBytes (m .delay)
+moduleBytes e m = m .kind ∷ m .parameter ∷ m .output ∷ take (roomForInputs e) (inputs m) ++ wordBytes (m .delay)
 
 abbrev pub eventBytes : Event → List ℕ
 eventBytes e = longBytes (e .tick) ++ e .node ∷ e .value ∷ []
@@ -41,19 +45,20 @@ encode e sheet =
 abbrev pub Bytes : List ℕ → Type 0
 Bytes s = (p : ℕ) → p < length s → getD s p 0 < 256
 
--- What fits the format. A count and a delay have two bytes, a tick has four:
-pub record Encodable (sheet : Sheet) : Type 0 where
+-- What fits the format of an edition. A count and a delay have two bytes, a tick has four; an input for which a record has no room is 0:
+pub record Encodable (e : Edition) (sheet : Sheet) : Type 0 where
   pub nodes : length (sheet .nodes) < 65536
   pub modules : length (sheet .modules) < 65536
   pub drive : length (sheet .drive) < 65536
   pub watched : length (sheet .watched) < 65536
   pub delays : (m : Module) → List·Memᴰ m (sheet .modules) → m .delay < 65536
   pub ticks : (e : Event) → List·Memᴰ e (sheet .drive) → e .tick < 2 ^ 32
+  pub room : (m : Module) → List·Memᴰ m (sheet .modules) → (v : ℕ) → List·Memᴰ v (drop (roomForInputs e) (inputs m)) → v ≡ 0
 
 -- and every other number has one byte
 pub record OneByteEach (sheet : Sheet) : Type 0 where
   pub nodes : (b : ℕ) → List·Memᴰ b (sheet .nodes) → b < 256
   pub modules : (m : Module) → List·Memᴰ m (sheet .modules)
-      → (m .kind < 256) × (m .parameter < 256) × (m .output < 256) × (m .first < 256) × (m .second < 256)
+      → (m .kind < 256) × (m .parameter < 256) × (m .output < 256) × (m .first < 256) × (m .second < 256) × (m .third < 256)
   pub drive : (e : Event) → List·Memᴰ e (sheet .drive) → (e .node < 256) × (e .value < 256)
   pub watched : (b : ℕ) → List·Memᴰ b (sheet .watched) → b < 256

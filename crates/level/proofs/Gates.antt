@@ -1,19 +1,20 @@
 -- What holds of the kinds' rules one by one, each by one test that antt computes over all kinds and values. Assumes nothing.
-use mathlib.Core.Bool.{Bool, true, false}
-use mathlib.Core.List.{List, [], _∷_, map, List·Memᴰ, List·Memᴰ·head, List·Memᴰ·tail}
+use mathlib.Core.Bool.{Bool, true, false, _&&_, _||_}
+use mathlib.Core.List.{List, [], _∷_, _++_, map, List·Memᴰ, List·Memᴰ·head, List·Memᴰ·tail}
 use mathlib.Core.Path.{_≡_, _∙_, refl, sym, ap, subst}
 use Prim.Native.Nat.{ℕ, zero, suc, _+_, _-_, _*_, _≤_, _<_}
-use native.Mathlib.Nat.{not-suc-le-zero, min-eq-left}
+use native.Mathlib.Nat.{min-eq-left}
 use native.Mathlib.Omega.{arith}
-use borrow.Author.Tests.{ltb-true, ltb-false, eqb-true, eqb-false}
+use borrow.Author.Tests.{ltb-true, ltb-false, eqb-true}
 use lib.Dec.{T, eqb, leb, ltb, eqb→eq, leb→le, ltb→lt}
-use lib.ListN.{length, getD, take, length-take, List·getD-append, List·getD-map, List·getD-eq-default}
+use lib.Ieee.Fits.{and-l, and-r}
+use lib.ListN.{length, getD, take, length-take, List·getD-map, List·getD-eq-default}
 use Rattle.level.specs.Choice.{if_then_else_}
 use Rattle.level.specs.Level.{unknown}
-use Rattle.level.specs.Gate.{inputAt, buffer, inverter, and, or, xor, nand, nor, clockedInverter, member}
+use Rattle.level.specs.Gate.{inputAt, buffer, inverter, and, or, xor, nand, nor, clockedInverter, multiplexer, member}
 use Rattle.level.specs.Rule.{Rule, gate, hold, inputsOf, comesTo}
 use Rattle.level.specs.Kind.{rules, ruleOf}
-use Rattle.level.specs.Table.{tableStart, entryOf, tables}
+use Rattle.level.specs.Table.{tableSize, tableStart, placeOf, entryOf, tables}
 use Rattle.level.proofs.Computed.{allBelow, below}
 
 -- each of a list is one of the four values
@@ -45,56 +46,79 @@ lists : (l : List ℕ) (f : List ℕ → Bool) → T (allLists (length l) f) →
 lists [] f t v = t
 lists (a ∷ l) f t v = lists l (λ l. f (a ∷ l)) (below 4 (λ a. allLists (length l) (λ l. f (a ∷ l))) t a (v .0)) (v .1)
 
--- the test f passes at every gate and every list of as many values as n says
-abbrev pub allGates : (ℕ → ℕ) → (ℕ → List ℕ → Bool) → Bool
-allGates n f = allBelow 8 (λ k. allLists (n (suc k)) (f (suc k)))
+-- a kind has a table: its rule is a gate that has inputs
+abbrev pub tabled : ℕ → Bool
+tabled kind = ltb 0 (tableSize (ruleOf kind 0))
 
-pub gates : (n : ℕ → ℕ) (f : ℕ → List ℕ → Bool) → T (allGates n f) → (kind : ℕ) (l : List ℕ) → 1 ≤ kind → kind ≤ 8 → length l ≡ n kind → Values l → T (f kind l)
-gates n f t zero l one eight e v = absurd (not-suc-le-zero one)
-gates n f t (suc k) l one eight e v = lists l (f (suc k)) (rw e (below 8 (λ k. allLists (n (suc k)) (f (suc k))) t k eight)) v
+tabled-below : (kind : ℕ) → T (tabled kind) → kind < 16
+tabled-below kind t = by (ltb kind 16) refl
+  where
+    by : (b : Bool) → ltb kind 16 ≡ b → kind < 16
+    by true e = ltb-true kind 16 e
+    by false e = absurd (rw (List·getD-eq-default (rules 0) (gate 0 (λ inputs. unknown)) (ltb-false kind 16 e)) at t)
+
+-- the test f passes at every kind that has a table and every list of as many values as its rule uses
+abbrev pub allGates : (ℕ → List ℕ → Bool) → Bool
+allGates f = allBelow 16 (λ k. if tabled k then allLists (inputsOf (ruleOf k 0)) (f k) else true)
+
+asked : (b x : Bool) → T b → T (if b then x else true) → T x
+asked true x t h = h
+asked false x t h = absurd t
+
+pub gates : (f : ℕ → List ℕ → Bool) → T (allGates f) → (kind : ℕ) (l : List ℕ) → T (tabled kind) → length l ≡ inputsOf (ruleOf kind 0) → Values l → T (f kind l)
+gates f t kind l h e v =
+    lists l (f kind) (rw e (asked (tabled kind) (allLists (inputsOf (ruleOf kind 0)) (f kind)) h (below 16 (λ k. if tabled k then allLists (inputsOf (ruleOf k 0)) (f k) else true) t kind (tabled-below kind h)))) v
 
 -- a kind uses as many inputs at every parameter
 pub same-inputs : (kind parameter : ℕ) → inputsOf (ruleOf kind parameter) ≡ inputsOf (ruleOf kind 0)
 same-inputs kind p = sym (List·getD-map inputsOf (rules p) kind (gate 0 (λ inputs. unknown))) ∙ List·getD-map inputsOf (rules 0) kind (gate 0 (λ inputs. unknown))
 
-pub most-inputs : (kind parameter : ℕ) → inputsOf (ruleOf kind parameter) ≤ 2
-most-inputs kind p = rw (same-inputs kind p) (by (ltb kind 10) refl)
+pub most-inputs : (kind parameter : ℕ) → inputsOf (ruleOf kind parameter) ≤ 3
+most-inputs kind p = rw (same-inputs kind p) (by (ltb kind 16) refl)
   where
-    by : (b : Bool) → ltb kind 10 ≡ b → inputsOf (ruleOf kind 0) ≤ 2
-    by true e = leb→le _ _ (below 10 (λ k. leb (inputsOf (ruleOf k 0)) 2) tt kind (ltb-true kind 10 e))
-    by false e = rw (List·getD-eq-default (rules 0) (gate 0 (λ inputs. unknown)) (ltb-false kind 10 e)) (omega arith)
+    by : (b : Bool) → ltb kind 16 ≡ b → inputsOf (ruleOf kind 0) ≤ 3
+    by true e = leb→le _ _ (below 16 (λ k. leb (inputsOf (ruleOf k 0)) 3) tt kind (ltb-true kind 16 e))
+    by false e = rw (List·getD-eq-default (rules 0) (gate 0 (λ inputs. unknown)) (ltb-false kind 16 e)) (omega arith)
 
-pub length-used : (kind parameter : ℕ) (l : List ℕ) → 2 ≤ length l → length (take (inputsOf (ruleOf kind parameter)) l) ≡ inputsOf (ruleOf kind parameter)
-length-used kind p l two = length-take (inputsOf (ruleOf kind p)) l ∙ min-eq-left (omega (arith, most-inputs kind p))
+pub length-used : (kind parameter : ℕ) (l : List ℕ) → 3 ≤ length l → length (take (inputsOf (ruleOf kind parameter)) l) ≡ inputsOf (ruleOf kind parameter)
+length-used kind p l three = length-take (inputsOf (ruleOf kind p)) l ∙ min-eq-left (omega (arith, most-inputs kind p))
 
-pub length-tables : length tables ≡ 104
+pub length-tables : length tables ≡ 488
 unfolding tables
 length-tables = refl
 
 -- a gate's entry in the tables is what its rule comes to
-pub gate-entry : (kind : ℕ) (inputs : List ℕ) → 1 ≤ kind → kind ≤ 8 → length inputs ≡ inputsOf (ruleOf kind 0) → Values inputs → getD tables (entryOf kind inputs) 0 ≡ comesTo (ruleOf kind 0) inputs 0
+pub gate-entry : (kind : ℕ) (inputs : List ℕ) → T (tabled kind) → length inputs ≡ inputsOf (ruleOf kind 0) → Values inputs → getD tables (entryOf kind inputs) 0 ≡ comesTo (ruleOf kind 0) inputs 0
 unfolding tables
-gate-entry kind inputs one eight e v =
-    eqb→eq _ _ (gates (λ k. inputsOf (ruleOf k 0)) (λ k l. eqb (getD tables (entryOf k l) 0) (comesTo (ruleOf k 0) l 0)) tt kind inputs one eight e v)
+gate-entry kind inputs h e v = eqb→eq _ _ (gates (λ k l. eqb (getD tables (entryOf k l) 0) (comesTo (ruleOf k 0) l 0)) tt kind inputs h e v)
+
+-- two lists that differ in one place are the same at the others
+elsewhere : (l rest : List Rule) (a b default : Rule) (i : ℕ) → (i ≡ length l → ⊥) → getD (l ++ a ∷ rest) i default ≡ getD (l ++ b ∷ rest) i default
+elsewhere [] rest a b d zero ne = absurd (ne refl)
+elsewhere [] rest a b d (suc i) ne = refl
+elsewhere (x ∷ l) rest a b d zero ne = refl
+elsewhere (x ∷ l) rest a b d (suc i) ne = elsewhere l rest a b d i (λ e. ne (ap suc e))
 
 -- a gate looks at no parameter and at no held value
-pub gate-same : (kind parameter : ℕ) (inputs : List ℕ) (held : ℕ) → 1 ≤ kind → kind ≤ 8 → comesTo (ruleOf kind parameter) inputs held ≡ comesTo (ruleOf kind 0) inputs 0
-gate-same zero p l h one eight = absurd (not-suc-le-zero one)
-gate-same (suc k) p l h one eight = ap (λ r. comesTo r l h) (at p ∙ sym (at 0)) ∙ unheld (ruleOf (suc k) 0) (below 8 (λ k. isGate (ruleOf (suc k) 0)) tt k eight)
+pub gate-same : (kind parameter : ℕ) (inputs : List ℕ) (held : ℕ) → T (tabled kind) → comesTo (ruleOf kind parameter) inputs held ≡ comesTo (ruleOf kind 0) inputs 0
+gate-same zero p l h t = absurd t
+gate-same (suc k) p l h t = ap (λ r. comesTo r l h) (at (λ e. not-memory k e t)) ∙ unheld (ruleOf (suc k) 0) t
   where
-    isGate : Rule → Bool
-    isGate (gate n f) = true
-    isGate (hold set) = false
-
-    unheld : (r : Rule) → T (isGate r) → comesTo r l h ≡ comesTo r l 0
+    unheld : (r : Rule) → T (ltb 0 (tableSize r)) → comesTo r l h ≡ comesTo r l 0
     unheld (gate n f) t = refl
     unheld (hold set) t = absurd t
 
-    listed : List Rule
-    listed = gate 1 buffer ∷ gate 1 inverter ∷ gate 2 and ∷ gate 2 or ∷ gate 2 xor ∷ gate 2 nand ∷ gate 2 nor ∷ gate 2 clockedInverter ∷ []
+    not-memory : (k : ℕ) → k ≡ 8 → T (tabled (suc k)) → ⊥
+    not-memory k e t = rw e at t
 
-    at : (p : ℕ) → ruleOf (suc k) p ≡ getD listed k (gate 0 (λ inputs. unknown))
-    at p = List·getD-append listed (hold (member p) ∷ []) (gate 0 (λ inputs. unknown)) k eight
+    of-one-or-two : List Rule
+    of-one-or-two = gate 1 buffer ∷ gate 1 inverter ∷ gate 2 and ∷ gate 2 or ∷ gate 2 xor ∷ gate 2 nand ∷ gate 2 nor ∷ gate 2 clockedInverter ∷ []
+
+    of-three : List Rule
+    of-three = gate 3 and ∷ gate 3 or ∷ gate 3 xor ∷ gate 3 nand ∷ gate 3 nor ∷ gate 3 multiplexer ∷ []
+
+    at : (k ≡ 8 → ⊥) → ruleOf (suc k) p ≡ ruleOf (suc k) 0
+    at ne = elsewhere of-one-or-two of-three (hold (member p)) (hold (member 0)) (gate 0 (λ inputs. unknown)) k ne
 
 -- a memory comes to its first input or to what it held
 chosen : (b : Bool) {x y : ℕ} → x < 4 → y < 4 → (if b then x else y) < 4
@@ -104,15 +128,22 @@ chosen false h l = l
 -- a rule comes to a value over values
 pub level-bound : (kind parameter : ℕ) (inputs : List ℕ) (held : ℕ) → (kind ≡ 0 → parameter < 4) → length inputs ≡ inputsOf (ruleOf kind parameter) → Values inputs → held < 4 → comesTo (ruleOf kind parameter) inputs held < 4
 level-bound zero p l h q e v s = q refl
-level-bound (suc k) p l h q e v s = by (ltb k 8) refl (eqb k 8) refl
+level-bound (suc k) p l h q e v s = by (tabled (suc k)) refl (eqb k 8) refl
   where
-    by : (g : Bool) → ltb k 8 ≡ g → (m : Bool) → eqb k 8 ≡ m → comesTo (ruleOf (suc k) p) l h < 4
+    -- a kind without a table is a constant, a memory or no kind
+    others : ltb k 15 ≡ true → tabled (suc k) ≡ false → eqb k 8 ≡ false → ⊥
+    others b t m = rw (t, m) at (below 15 (λ k. tabled (suc k) || eqb k 8) tt k (ltb-true k 15 b))
+
+    past : (b : Bool) → ltb k 15 ≡ b → tabled (suc k) ≡ false → eqb k 8 ≡ false → comesTo (ruleOf (suc k) p) l h < 4
+    past true b t m = absurd (others b t m)
+    past false b t m = rw (List·getD-eq-default (rules p) (gate 0 (λ inputs. unknown)) {n = suc k} (omega (arith, ltb-false k 15 b))) (omega arith)
+
+    by : (g : Bool) → tabled (suc k) ≡ g → (m : Bool) → eqb k 8 ≡ m → comesTo (ruleOf (suc k) p) l h < 4
     by true g m i =
-        let eight : suc k ≤ 8 = ltb-true k 8 g in
-        rw (gate-same (suc k) p l h (omega arith) eight)
-        (ltb→lt _ _ (gates (λ k. inputsOf (ruleOf k 0)) (λ k l. ltb (comesTo (ruleOf k 0) l 0) 4) tt (suc k) l (omega arith) eight (e ∙ same-inputs (suc k) p) v))
+        let t : T (tabled (suc k)) = rw g tt in
+        rw (gate-same (suc k) p l h t) (ltb→lt _ _ (gates (λ k l. ltb (comesTo (ruleOf k 0) l 0) 4) tt (suc k) l t (e ∙ same-inputs (suc k) p) v))
     by false g true i = rw (eqb-true k 8 i) (chosen (member p (inputAt l 1)) (value-at l 0 v) s)
-    by false g false i = rw (List·getD-eq-default (rules p) (gate 0 (λ inputs. unknown)) {n = suc k} (omega (arith, ltb-false k 8 g, eqb-false k 8 i))) (omega arith)
+    by false g false i = past (ltb k 15) refl g i
 
 -- a rule that held what it comes to comes to that
 pub again : (r : Rule) (inputs : List ℕ) (held : ℕ) → comesTo r inputs (comesTo r inputs held) ≡ comesTo r inputs held
@@ -130,28 +161,34 @@ in-stretch f from n t k l h = subst (λ x. T (f x)) same (below n (λ j. f (from
     same : from + (k - from) ≡ k
     same = omega arith
 
--- Kinds 1 and 2 are gates of one input, kinds 3 to 8 of two: how many inputs they use, and where their tables begin.
-pub inputs-one : (k : ℕ) → 1 ≤ k → k ≤ 2 → inputsOf (ruleOf k 0) ≡ 1
-inputs-one k l h = eqb→eq _ _ (in-stretch (λ k. eqb (inputsOf (ruleOf k 0)) 1) 1 2 tt k l (omega arith))
+-- a kind that has a table: how many inputs it uses, and where its table begins
+pub record Tabled (kind n from : ℕ) : Type 0 where
+  pub has-table : T (tabled kind)
+  pub inputs : inputsOf (ruleOf kind 0) ≡ n
+  pub start : tableStart kind ≡ from
 
-pub inputs-two : (k : ℕ) → 3 ≤ k → k ≤ 8 → inputsOf (ruleOf k 0) ≡ 2
-inputs-two k l h = eqb→eq _ _ (in-stretch (λ k. eqb (inputsOf (ruleOf k 0)) 2) 3 6 tt k l (omega arith))
+tells : (n : ℕ) (start : ℕ → ℕ) (from count : ℕ) → T (allBelow count (λ j. tabled (from + j) && (eqb (inputsOf (ruleOf (from + j) 0)) n && eqb (tableStart (from + j)) (start (from + j)))))
+    → (k : ℕ) → from ≤ k → k < from + count → Tabled k n (start k)
+tells n start from count t k l h =
+    let test = in-stretch (λ k. tabled k && (eqb (inputsOf (ruleOf k 0)) n && eqb (tableStart k) (start k))) from count t k l h in
+    let rest = and-r (tabled k) (eqb (inputsOf (ruleOf k 0)) n && eqb (tableStart k) (start k)) test in
+    record {
+      has-table = and-l (tabled k) (eqb (inputsOf (ruleOf k 0)) n && eqb (tableStart k) (start k)) test;
+      inputs = eqb→eq _ _ (and-l (eqb (inputsOf (ruleOf k 0)) n) (eqb (tableStart k) (start k)) rest);
+      start = eqb→eq _ _ (and-r (eqb (inputsOf (ruleOf k 0)) n) (eqb (tableStart k) (start k)) rest);
+    }
 
-pub start-of-one : (k : ℕ) → 1 ≤ k → k ≤ 2 → tableStart k ≡ 4 * k - 4
-start-of-one k l h = eqb→eq _ _ (in-stretch (λ k. eqb (tableStart k) (4 * k - 4)) 1 2 tt k l (omega arith))
+-- kinds 1 and 2 are gates of one input, 3 to 8 of two, 10 to 15 of three
+pub of-one : (k : ℕ) → 1 ≤ k → k ≤ 2 → Tabled k 1 (4 * k - 4)
+of-one k l h = tells 1 (λ k. 4 * k - 4) 1 2 tt k l (omega arith)
 
-pub start-of-two : (k : ℕ) → 3 ≤ k → k ≤ 8 → tableStart k ≡ 16 * k - 40
-start-of-two k l h = eqb→eq _ _ (in-stretch (λ k. eqb (tableStart k) (16 * k - 40)) 3 6 tt k l (omega arith))
+pub of-two : (k : ℕ) → 3 ≤ k → k ≤ 8 → Tabled k 2 (16 * k - 40)
+of-two k l h = tells 2 (λ k. 16 * k - 40) 3 6 tt k l (omega arith)
 
--- their entries
-pub one-entry : (k a : ℕ) → 1 ≤ k → k ≤ 2 → a < 4 → getD tables (tableStart k + a) 0 ≡ comesTo (ruleOf k 0) (a ∷ []) 0
-one-entry k a l h f = ap (λ p. getD tables p 0) place ∙ gate-entry k (a ∷ []) l (omega arith) (sym (inputs-one k l h)) (f, tt)
-  where
-    place : tableStart k + a ≡ entryOf k (a ∷ [])
-    place = omega arith
+pub of-three : (k : ℕ) → 10 ≤ k → k ≤ 15 → Tabled k 3 (64 * k - 536)
+of-three k l h = tells 3 (λ k. 64 * k - 536) 10 6 tt k l (omega arith)
 
-pub two-entry : (k a b : ℕ) → 3 ≤ k → k ≤ 8 → a < 4 → b < 4 → getD tables (tableStart k + (4 * a + b)) 0 ≡ comesTo (ruleOf k 0) (a ∷ b ∷ []) 0
-two-entry k a b l h f s = ap (λ p. getD tables p 0) place ∙ gate-entry k (a ∷ b ∷ []) (omega arith) h (sym (inputs-two k l h)) (f, (s, tt))
-  where
-    place : tableStart k + (4 * a + b) ≡ entryOf k (a ∷ b ∷ [])
-    place = omega arith
+-- an entry of such a kind's table
+pub entry-at : {kind n start : ℕ} → Tabled kind n start → (inputs : List ℕ) (place : ℕ) → length inputs ≡ n → Values inputs → place ≡ placeOf inputs
+    → getD tables (tableStart kind + place) 0 ≡ comesTo (ruleOf kind 0) inputs 0
+entry-at {kind} t inputs place e v p = ap (λ i. getD tables (tableStart kind + i) 0) p ∙ gate-entry kind inputs (t .has-table) (e ∙ sym (t .inputs)) v

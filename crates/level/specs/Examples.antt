@@ -1,10 +1,10 @@
 -- Document 01, "Examples": those marked * to be proved, as a table of a value and what the paper says it is. This part has the gates',
--- the clocked inverter's as document 02's W-202 has it, at each clock.
+-- the clocked inverter's as document 02's W-202 has it, at each clock, and those of W-205's gates of three inputs.
 use mathlib.Core.List.{List, [], _∷_, List·Memᴰ}
 use mathlib.Core.Path.{_≡_}
 use Prim.Native.Nat.{ℕ}
 use Rattle.level.specs.Level.{low, high, unknown, none}
-use Rattle.level.specs.Gate.{nand, and, or, xor, inverter, clockedInverter}
+use Rattle.level.specs.Gate.{nand, and, or, xor, inverter, clockedInverter, nor, multiplexer}
 
 -- a value that a definition gives, and the paper's
 pub record Example : Type 0 where
@@ -33,4 +33,19 @@ gateExamples =
     ∷ is (clockedInverter (high ∷ low ∷ [])) none
     ∷ is (clockedInverter (low ∷ high ∷ [])) high
     ∷ is (clockedInverter (high ∷ high ∷ [])) low
+    ∷ is (and (high ∷ high ∷ none ∷ [])) unknown
+    ∷ is (or (low ∷ unknown ∷ high ∷ [])) high
+    ∷ is (xor (high ∷ high ∷ high ∷ [])) high
+    ∷ is (xor (high ∷ low ∷ high ∷ [])) low
+    ∷ is (xor (high ∷ high ∷ none ∷ [])) unknown
+    ∷ is (nand (none ∷ unknown ∷ low ∷ [])) high
+    ∷ is (nor (low ∷ low ∷ low ∷ [])) high
+    ∷ is (multiplexer (low ∷ high ∷ high ∷ [])) high
+    ∷ is (multiplexer (low ∷ high ∷ low ∷ [])) low
+    ∷ is (multiplexer (low ∷ none ∷ high ∷ [])) unknown
+    ∷ is (multiplexer (none ∷ high ∷ low ∷ [])) unknown
+    ∷ is (multiplexer (high ∷ high ∷ unknown ∷ [])) high
+    ∷ is (multiplexer (low ∷ low ∷ none ∷ [])) low
+    ∷ is (multiplexer (low ∷ high ∷ unknown ∷ [])) unknown
+    ∷ is (multiplexer (none ∷ none ∷ unknown ∷ [])) unknown
     ∷ []

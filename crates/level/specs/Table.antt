@@ -1,4 +1,5 @@
--- The constant tables: one for each kind of gate that has inputs, kind after kind, 4 entries for one input and 16 for two.
+-- The constant tables: one for each kind of gate that has inputs, kind after kind: 4 entries for one input, 16 for
+-- two and 64 for three.
 -- First where a gate's entry stands in them, then the entries.
 use mathlib.Core.List.{List, [], _∷_, _++_, map}
 use Prim.Native.Nat.{ℕ, zero, suc, _+_, _*_, _^_}

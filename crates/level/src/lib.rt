@@ -1,4 +1,7 @@
 // The four values of a cell, and the gates' rules as constant tables over them.
+mod tables;
+
+use crate::tables::TABLES;
 ghost use mathlib.Core.Path.{_≡_};
 ghost use mathlib.Core.List.{List, [], _∷_};
 ghost use Prim.Native.Nat.{ℕ, _+_, _%_, _≤_};
@@ -9,8 +12,10 @@ ghost use Rattle.level.specs.Rule.{inputsOf, comesTo};
 ghost use Rattle.level.specs.Kind.{ruleOf};
 ghost use Rattle.level.specs.Table.{tableStart, tables};
 
-// The last kind that has a rule, and the kinds of a constant and of a memory.
-pub const LAST_KIND: u8 = 9;
+// The last of document 01's kinds, and the last that has a rule; the kinds of a constant and of a memory.
+pub const LAST_OF_TWO: u8 = 9;
+
+pub const LAST_KIND: u8 = 15;
 
 pub const CONSTANT: u8 = 0;
 
@@ -20,144 +25,10 @@ pub const MEMORY: u8 = 9;
 pub const LAST_OF_ONE: u8 = 2;
 
 // The entries of all tables.
-pub const TABLE_ENTRIES: usize = 104;
+pub const TABLE_ENTRIES: usize = 488;
 
 // The weight of each value in a memory's set.
 const WEIGHTS: [u8; 4] = [1, 2, 4, 8];
-
-// Kinds 1 and 2, 4 entries each, by the input's value; then kinds 3 to 8, 16 entries each, by the first input's value, then the second's.
-const TABLES: [u8; TABLE_ENTRIES] = [
-    // 1 buffer
-    Level::LOW,
-    Level::HIGH,
-    Level::UNKNOWN,
-    Level::UNKNOWN,
-    // 2 inverter
-    Level::HIGH,
-    Level::LOW,
-    Level::UNKNOWN,
-    Level::UNKNOWN,
-    // 3 AND, first input 0
-    Level::LOW,
-    Level::LOW,
-    Level::LOW,
-    Level::LOW,
-    // 3 AND, first input 1
-    Level::LOW,
-    Level::HIGH,
-    Level::UNKNOWN,
-    Level::UNKNOWN, // AND(1, Z)
-    // 3 AND, first input X
-    Level::LOW,
-    Level::UNKNOWN,
-    Level::UNKNOWN,
-    Level::UNKNOWN,
-    // 3 AND, first input Z
-    Level::LOW,
-    Level::UNKNOWN,
-    Level::UNKNOWN,
-    Level::UNKNOWN,
-    // 4 OR, first input 0
-    Level::LOW,
-    Level::HIGH,
-    Level::UNKNOWN,
-    Level::UNKNOWN,
-    // 4 OR, first input 1
-    Level::HIGH,
-    Level::HIGH,
-    Level::HIGH,
-    Level::HIGH,
-    // 4 OR, first input X
-    Level::UNKNOWN,
-    Level::HIGH,
-    Level::UNKNOWN,
-    Level::UNKNOWN,
-    // 4 OR, first input Z
-    Level::UNKNOWN,
-    Level::HIGH,
-    Level::UNKNOWN,
-    Level::UNKNOWN,
-    // 5 XOR, first input 0
-    Level::LOW,
-    Level::HIGH,
-    Level::UNKNOWN,
-    Level::UNKNOWN,
-    // 5 XOR, first input 1
-    Level::HIGH,
-    Level::LOW,
-    Level::UNKNOWN,
-    Level::UNKNOWN,
-    // 5 XOR, first input X
-    Level::UNKNOWN,
-    Level::UNKNOWN,
-    Level::UNKNOWN,
-    Level::UNKNOWN,
-    // 5 XOR, first input Z
-    Level::UNKNOWN,
-    Level::UNKNOWN,
-    Level::UNKNOWN,
-    Level::UNKNOWN,
-    // 6 NAND, first input 0
-    Level::HIGH,
-    Level::HIGH,
-    Level::HIGH,
-    Level::HIGH,
-    // 6 NAND, first input 1
-    Level::HIGH,
-    Level::LOW,
-    Level::UNKNOWN,
-    Level::UNKNOWN,
-    // 6 NAND, first input X
-    Level::HIGH,
-    Level::UNKNOWN,
-    Level::UNKNOWN,
-    Level::UNKNOWN,
-    // 6 NAND, first input Z
-    Level::HIGH,
-    Level::UNKNOWN,
-    Level::UNKNOWN,
-    Level::UNKNOWN,
-    // 7 NOR, first input 0
-    Level::HIGH,
-    Level::LOW,
-    Level::UNKNOWN,
-    Level::UNKNOWN,
-    // 7 NOR, first input 1
-    Level::LOW,
-    Level::LOW,
-    Level::LOW,
-    Level::LOW,
-    // 7 NOR, first input X
-    Level::UNKNOWN,
-    Level::LOW,
-    Level::UNKNOWN,
-    Level::UNKNOWN,
-    // 7 NOR, first input Z
-    Level::UNKNOWN,
-    Level::LOW,
-    Level::UNKNOWN,
-    Level::UNKNOWN,
-    // 8 clocked inverter, first input 0
-    Level::NONE,
-    Level::HIGH,
-    Level::UNKNOWN, // clock X, first input 0
-    Level::UNKNOWN, // clock Z, first input 0
-    // 8 clocked inverter, first input 1
-    Level::NONE,
-    Level::LOW,
-    Level::UNKNOWN, // clock X, first input 1
-    Level::UNKNOWN, // clock Z, first input 1
-    // 8 clocked inverter, first input X
-    Level::NONE,
-    Level::UNKNOWN,
-    Level::UNKNOWN, // clock X, first input X
-    Level::UNKNOWN, // clock Z, first input X
-    // 8 clocked inverter, first input Z
-    Level::NONE,
-    Level::UNKNOWN,
-    Level::UNKNOWN, // clock X, first input Z
-    Level::UNKNOWN, // clock Z, first input Z
-];
 
 // The values and what is done with them; a value is a byte, 0 to 3.
 pub struct Level {}
@@ -200,7 +71,7 @@ impl Level {
     // Where the table of a gate of one input begins: it has 4 entries, by the input's value.
     pub fn start_of_one(kind: u8) -> usize
         requires { ⌜ (1 ≤ kind) × (kind ≤ 2) ⌝ }
-        ensures { λ r. ⌜ (r ≡ tableStart kind) × (r + 4 ≤ 104) ⌝ }
+        ensures { λ r. ⌜ (r ≡ tableStart kind) × (r + 4 ≤ 488) ⌝ }
     {
         4 * (kind as usize) - 4
     }
@@ -208,9 +79,17 @@ impl Level {
     // Where the table of a gate of two inputs begins: it has 16 entries, by the first input's value and then the second's.
     pub fn start_of_two(kind: u8) -> usize
         requires { ⌜ (3 ≤ kind) × (kind ≤ 8) ⌝ }
-        ensures { λ r. ⌜ (r ≡ tableStart kind) × (r + 16 ≤ 104) ⌝ }
+        ensures { λ r. ⌜ (r ≡ tableStart kind) × (r + 16 ≤ 488) ⌝ }
     {
         16 * (kind as usize) - 40
+    }
+
+    // Where the table of a gate of three inputs begins: it has 64 entries, by the first input's value, the second's and the third's.
+    pub fn start_of_three(kind: u8) -> usize
+        requires { ⌜ (10 ≤ kind) × (kind ≤ 15) ⌝ }
+        ensures { λ r. ⌜ (r ≡ tableStart kind) × (r + 64 ≤ 488) ⌝ }
+    {
+        64 * (kind as usize) - 536
     }
 
     // A constant, kind 0: its parameter, whatever the inputs and the value held.
@@ -221,8 +100,8 @@ impl Level {
     }
 
     // What a kind's rule comes to at its inputs' values, with parameter 0 and held value 0. Only the values' two low bits count.
-    pub fn gate(kind: u8, first: u8, second: u8) -> u8
-        ensures { λ r. ⌜ r ≡ comesTo (ruleOf kind 0) (take (inputsOf (ruleOf kind 0)) (first % 4 ∷ second % 4 ∷ [])) 0 ⌝ }
+    pub fn gate(kind: u8, first: u8, second: u8, third: u8) -> u8
+        ensures { λ r. ⌜ r ≡ comesTo (ruleOf kind 0) (take (inputsOf (ruleOf kind 0)) (first % 4 ∷ second % 4 ∷ third % 4 ∷ [])) 0 ⌝ }
     {
         if kind == CONSTANT {
             Level::LOW
@@ -232,6 +111,11 @@ impl Level {
             TABLES[Level::start_of_two(kind) + 4 * ((first % 4) as usize) + (second % 4) as usize]
         } else if kind == MEMORY {
             Level::LOW
+        } else if kind <= LAST_KIND {
+            TABLES[Level::start_of_three(kind)
+                + 16 * ((first % 4) as usize)
+                + 4 * ((second % 4) as usize)
+                + (third % 4) as usize]
         } else {
             Level::UNKNOWN
         }
@@ -239,7 +123,7 @@ impl Level {
 }
 
 // How many inputs each kind uses, from the first on.
-const INPUTS: [u8; 10] = [0, 1, 1, 2, 2, 2, 2, 2, 2, 2];
+const INPUTS: [u8; 16] = [0, 1, 1, 2, 2, 2, 2, 2, 2, 2, 3, 3, 3, 3, 3, 3];
 
 // How many inputs a kind uses; a kind that no table has uses none.
 pub fn inputs(kind: u8) -> u8

@@ -13,7 +13,7 @@ use Rattle.sheet.specs.Sheet.{Sheet, moduleCount, moduleOf, nodeCount}
 use Rattle.sheet.specs.WorkingOrder.{workingOrder}
 use Rattle.sheet.specs.declared.Edition.{Edition}
 use Rattle.format.specs.Accepted.{Accepted, AcceptedIn, Known}
-use Rattle.format.specs.Encode.{Bytes}
+use Rattle.format.specs.Encode.{Bytes, Encodable}
 use Rattle.network.specs.Demand3.{RunsToHorizon, SameRenumbered, ValidOrders, workedFrom}
 use Rattle.network.specs.Ends.{endedListing}
 use Rattle.network.specs.Order.{Listed, ValidOrder}
@@ -98,19 +98,22 @@ module _ {E : Edition} (known : Known E) (s : List ℕ) (ok : AcceptedIn E s) (�
   accepted-sheet : Accepted Q
   accepted-sheet = accepted-renumbered (sheetOf E s) (ok .sheet) π order each-once
 
+  kinds-renumbered : (k : ℕ) → k < moduleCount Q → moduleOf Q k .kind ≤ E .greatest
+  kinds-renumbered k h =
+      let l = rw (module-count-renumbered (sheetOf E s) π order each-once) at h in
+      subst (λ m. m .kind ≤ E .greatest) (sym (module-of-renumbered (sheetOf E s) π order each-once k l)) (ok .kinds (getD order k 0) (each-once .known k l))
+
+  fits-renumbered : Encodable E Q
+  fits-renumbered = fits Q accepted-sheet known kinds-renumbered
+
   pub sheet-renumbered : sheetOf E p ≡ Q
-  sheet-renumbered = read-encode known Q (fits Q accepted-sheet)
+  sheet-renumbered = read-encode known Q fits-renumbered
 
   pub bytes-renumbered : Bytes p
   bytes-renumbered = encode-bytes E Q (one-byte-each Q accepted-sheet)
 
   pub accepted-bytes : AcceptedIn E p
-  accepted-bytes = record { sheet = rw sheet-renumbered accepted-sheet; kinds = rw sheet-renumbered kinds; whole = encode-whole known Q (fits Q accepted-sheet) }
-    where
-      kinds : (k : ℕ) → k < moduleCount Q → moduleOf Q k .kind ≤ E .greatest
-      kinds k h =
-          let l = rw (module-count-renumbered (sheetOf E s) π order each-once) at h in
-          subst (λ m. m .kind ≤ E .greatest) (sym (module-of-renumbered (sheetOf E s) π order each-once k l)) (ok .kinds (getD order k 0) (each-once .known k l))
+  accepted-bytes = record { sheet = rw sheet-renumbered accepted-sheet; kinds = rw sheet-renumbered kinds-renumbered; whole = encode-whole known Q fits-renumbered }
 
   pub checked-renumbered : checked E p ≡ finished 0
   checked-renumbered = conversely E known p accepted-bytes

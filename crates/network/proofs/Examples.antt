@@ -1,18 +1,18 @@
--- The starred examples of document 01, as one table with those of inputs that start unknown, and whole runs of both. Assumes nothing.
+-- The starred examples of document 01, as one table with those of inputs that start unknown and of gates of three inputs, and whole runs. Assumes nothing.
 use lib.ListN.{length, replicate}
 use mathlib.Core.List.{[], _∷_}
 use mathlib.Core.Path.{_≡_, refl}
 use Prim.Native.Nat.{ℕ}
 use Rattle.level.specs.Examples.{Hold}
 use Rattle.sheet.specs.Enumerate.{anyBelow, each}
-use Rattle.sheet.specs.Layout.{firstEdition, sheetOf}
+use Rattle.sheet.specs.Layout.{firstEdition, secondEdition, sheetOf}
 use Rattle.sheet.specs.Loop.{leadsOver}
 use Rattle.sheet.specs.Outcome.{finished, refused}
 use Rattle.sheet.specs.Refusal.{notAboveEvent, notAboveWatched, bytesRows, rows, first, checkedBy, checked, checkedStrictly}
 use Rattle.sheet.specs.WorkingOrder.{leadingTo, workingOrder}
 use Rattle.format.specs.Encode.{allBytes}
 use Rattle.network.specs.Buffer.{bufferAfter}
-use Rattle.network.specs.Examples.{workedSheet, memorySheet, startSheet, examples}
+use Rattle.network.specs.Examples.{workedSheet, memorySheet, startSheet, threeSheet, examples}
 use Rattle.network.specs.LaterEvents.{eventsBelow}
 use Rattle.network.specs.Ends.{firstFrom, Ended}
 use Rattle.network.specs.Listing.{recordsAt}
@@ -65,6 +65,17 @@ pub start-run : ran firstEdition startSheet 6 120
     (listed 0 0 2 6 ∷ listed 0 1 2 3 ∷ listed 0 2 0 2 ∷ listed 0 3 3 1 ∷ listed 0 4 1 2 ∷ listed 1 3 0 3 ∷ listed 2 2 1 4 ∷ listed 2 4 2 4 ∷ listed 3 1 1 6 ∷ listed 3 3 1 6 ∷ listed 4 2 0 6 ∷ listed 4 4 1 6 ∷ [])
 unfolding sheetOf checkedBy rows bytesRows first notAboveEvent notAboveWatched workingOrder leadingTo leadsOver anyBelow each given driveCell latest unworked work workAll worked recordsAt firstFrom firstTick writtenOf ran
 start-run = refl
+
+-- gates of three inputs: a sheet of the second edition, which the first refuses at its first module's kind
+pub three-checked : (checkedStrictly secondEdition threeSheet ≡ refused 15 2 0) × (checked firstEdition threeSheet ≡ refused 5 9 0)
+unfolding sheetOf checkedBy rows bytesRows first notAboveEvent notAboveWatched leadsOver anyBelow each
+three-checked = (refl, refl)
+
+pub three-run : ran secondEdition threeSheet 8 90
+    ≡ wrote (finished 9)
+    (listed 0 3 2 2 ∷ listed 0 4 0 2 ∷ listed 2 3 1 4 ∷ listed 2 4 2 4 ∷ listed 4 3 0 5 ∷ listed 4 4 0 6 ∷ listed 5 3 2 8 ∷ listed 6 4 1 7 ∷ listed 7 4 2 8 ∷ [])
+unfolding sheetOf checkedBy rows bytesRows first notAboveEvent notAboveWatched workingOrder leadingTo leadsOver anyBelow each given driveCell latest unworked work workAll worked recordsAt firstFrom firstTick writtenOf ran
+three-run = refl
 
 -- of the worked run's two events, at ticks 0 and 5, one is below horizon 5, and both are below horizon 6
 pub events-below : (length (eventsBelow 5 (sheetOf firstEdition workedSheet .drive)) ≡ 1) × (length (eventsBelow 6 (sheetOf firstEdition workedSheet .drive)) ≡ 2)

@@ -15,22 +15,24 @@ use Rattle.format.specs.Accepted.{SoundModule}
 use Rattle.network.specs.Renumbering.{renumberedModule}
 use Rattle.level.proofs.Computed.{below}
 
--- two inputs, the first k of them numbered anew
-abbrev renumberedInputs : (ℕ → ℕ) → ℕ → ℕ → ℕ → List ℕ
-renumberedInputs to k a b = (if ltb 0 k then to a else a) ∷ (if ltb 1 k then to b else b) ∷ []
+-- three inputs, the first k of them numbered anew
+abbrev renumberedInputs : (ℕ → ℕ) → ℕ → ℕ → ℕ → ℕ → List ℕ
+renumberedInputs to k a b c = (if ltb 0 k then to a else a) ∷ (if ltb 1 k then to b else b) ∷ (if ltb 2 k then to c else c) ∷ []
 
-used-unused : (to : ℕ → ℕ) (k a b : ℕ) → (take k (renumberedInputs to k a b) ≡ map to (take k (a ∷ b ∷ []))) × (drop k (renumberedInputs to k a b) ≡ drop k (a ∷ b ∷ []))
-used-unused to zero a b = (refl, refl)
-used-unused to (suc zero) a b = (refl, refl)
-used-unused to (suc (suc zero)) a b = (refl, refl)
-used-unused to (suc (suc (suc k))) a b = rw (lt-ltb 0 (suc (suc (suc k))) (omega arith), lt-ltb 1 (suc (suc (suc k))) (omega arith)) (refl, refl)
+used-unused : (to : ℕ → ℕ) (k a b c : ℕ) → (take k (renumberedInputs to k a b c) ≡ map to (take k (a ∷ b ∷ c ∷ []))) × (drop k (renumberedInputs to k a b c) ≡ drop k (a ∷ b ∷ c ∷ []))
+used-unused to zero a b c = (refl, refl)
+used-unused to (suc zero) a b c = (refl, refl)
+used-unused to (suc (suc zero)) a b c = (refl, refl)
+used-unused to (suc (suc (suc zero))) a b c = (refl, refl)
+used-unused to (suc (suc (suc (suc k)))) a b c =
+    rw (lt-ltb 0 (suc (suc (suc (suc k)))) (omega arith), lt-ltb 1 (suc (suc (suc (suc k)))) (omega arith), lt-ltb 2 (suc (suc (suc (suc k)))) (omega arith)) (refl, refl)
 
 module _ (to : ℕ → ℕ) (m : Module) where
   pub used-renumbered : usedInputs (renumberedModule to m) ≡ map to (usedInputs m)
-  used-renumbered = used-unused to (inputsOf (moduleRule m)) (m .first) (m .second) .0
+  used-renumbered = used-unused to (inputsOf (moduleRule m)) (m .first) (m .second) (m .third) .0
 
   unused-renumbered : unusedInputs (renumberedModule to m) ≡ unusedInputs m
-  unused-renumbered = used-unused to (inputsOf (moduleRule m)) (m .first) (m .second) .1
+  unused-renumbered = used-unused to (inputsOf (moduleRule m)) (m .first) (m .second) (m .third) .1
 
   pub sound-renumbered : (n : ℕ) → ((v : ℕ) → v < n → to v < n) → SoundModule n m → SoundModule n (renumberedModule to m)
   sound-renumbered n below h =

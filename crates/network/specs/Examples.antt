@@ -1,10 +1,10 @@
--- Document 01, "Examples": the cells marked * to be proved, which join the gates' in one table, and those of inputs that start unknown,
--- as document 02's W-203 has it.
+-- Document 01, "Examples": the cells marked * to be proved, which join the gates' in one table, and those of inputs that start unknown
+-- and of gates of three inputs, as document 02's W-203 and W-205 have them.
 use mathlib.Core.List.{List, [], _∷_, _++_}
 use Prim.Native.Nat.{ℕ}
 use Rattle.level.specs.Level.{low, high, unknown}
 use Rattle.level.specs.Examples.{Example, is, gateExamples}
-use Rattle.sheet.specs.Layout.{firstEdition, sheetOf}
+use Rattle.sheet.specs.Layout.{firstEdition, secondEdition, sheetOf}
 use Rattle.network.specs.Run.{cellsOf}
 
 -- the worked run's sheet: node 0 is an input, and a NAND of delay 3 drives node 1 from node 0 and node 1
@@ -54,6 +54,28 @@ startExamples =
     ∷ is (cellsOf (sheetOf firstEdition startSheet) 6 3 4) unknown
     ∷ []
 
+-- A sheet of the second edition. Nodes 0 and 1 are inputs that are 0 and 1 from tick 0 on, node 2 one that is 1 from tick 2 and 0 from
+-- tick 4 on; node 0 is Z from tick 5 on. A multiplexer of delay 0 drives node 3 and an XOR of delay 2 node 4, each from nodes 0, 1 and 2.
+abbrev pub threeSheet : List ℕ
+threeSheet =
+    5 ∷ 0 ∷ 4 ∷ 4 ∷ 4 ∷ 2 ∷ 0
+    ∷ 2 ∷ 0 ∷ 15 ∷ 0 ∷ 3 ∷ 0 ∷ 1 ∷ 2 ∷ 0 ∷ 0 ∷ 12 ∷ 0 ∷ 4 ∷ 0 ∷ 1 ∷ 2 ∷ 2 ∷ 0
+    ∷ 5 ∷ 0 ∷ 0 ∷ 0 ∷ 0 ∷ 0 ∷ 0 ∷ 0 ∷ 0 ∷ 0 ∷ 0 ∷ 0 ∷ 1 ∷ 1 ∷ 2 ∷ 0 ∷ 0 ∷ 0 ∷ 2 ∷ 1 ∷ 4 ∷ 0 ∷ 0 ∷ 0 ∷ 2 ∷ 0 ∷ 5 ∷ 0 ∷ 0 ∷ 0 ∷ 0 ∷ 3
+    ∷ 2 ∷ 0 ∷ 3 ∷ 4 ∷ []
+
+-- the multiplexer's third input is X, 1 and 0, and then the first, which it chooses, is Z; the XOR two ticks later
+abbrev pub threeExamples : List Example
+threeExamples =
+    is (cellsOf (sheetOf secondEdition threeSheet) 8 1 3) unknown
+    ∷ is (cellsOf (sheetOf secondEdition threeSheet) 8 3 3) high
+    ∷ is (cellsOf (sheetOf secondEdition threeSheet) 8 4 3) low
+    ∷ is (cellsOf (sheetOf secondEdition threeSheet) 8 5 3) unknown
+    ∷ is (cellsOf (sheetOf secondEdition threeSheet) 8 1 4) low
+    ∷ is (cellsOf (sheetOf secondEdition threeSheet) 8 3 4) unknown
+    ∷ is (cellsOf (sheetOf secondEdition threeSheet) 8 5 4) low
+    ∷ is (cellsOf (sheetOf secondEdition threeSheet) 8 6 4) high
+    ∷ []
+
 -- the one table
 abbrev pub examples : List Example
-examples = gateExamples ++ cellExamples ++ startExamples
+examples = gateExamples ++ cellExamples ++ startExamples ++ threeExamples

@@ -46,6 +46,7 @@ renumberedModule to m =
       output = to (m .output);
       first = if ltb 0 inputs then to (m .first) else m .first;
       second = if ltb 1 inputs then to (m .second) else m .second;
+      third = if ltb 2 inputs then to (m .third) else m .third;
       delay = m .delay;
     }
 

@@ -49,6 +49,7 @@ fn mark_module(reach: &mut [bool; LINKS], m: Module)
     let at_once = m.delay == 0;
     mark(reach, m.first, m.output, at_once & (0 < used));
     mark(reach, m.second, m.output, at_once & (1 < used));
+    mark(reach, m.third, m.output, at_once & (2 < used));
 }
 
 // The links of the first n modules.

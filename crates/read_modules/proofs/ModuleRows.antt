@@ -71,15 +71,15 @@ module _ (e : Edition) (s : List ℕ) where
         ∙ sym (passed-append (countRows s (modulesPlace s) 0 mostModules) (each (modulesCounted s) (moduleRows e s)) (r .count-clear))
 
     abbrev rowsAt : ℕ → List Row
-    rowsAt q = (2 at q when endsInside s q (e .size)) ∷ recordRows (e .greatest) (nodesCounted s) (drivenBy (sheetOf e s) m) q (moduleRecord s q)
+    rowsAt q = (2 at q when endsInside s q (e .size)) ∷ recordRows (e .greatest) (nodesCounted s) (drivenBy (sheetOf e s) m) q (moduleRecord e s q)
 
     pub module-short : ModuleRead.Short ≡ moduleRead e s p → refused 2 p 0 ≡ first (moduleRows e s m)
     unfolding first
-    module-short read = sym (ap (λ q. first (rowsAt q)) (sym (reached .place)) ∙ simp (short-module (endsInside s p (e .size)) (moduleRecord s p) read))
+    module-short read = sym (ap (λ q. first (rowsAt q)) (sym (reached .place)) ∙ simp (short-module (endsInside s p (e .size)) (moduleRecord e s p) read))
 
     module _ {r : Module} (read : ModuleRead.Whole r ≡ moduleRead e s p) where
-      there : (endsInside s p (e .size) ≡ false) × (r ≡ moduleRecord s p)
-      there = whole-module (endsInside s p (e .size)) (moduleRecord s p) r read
+      there : (endsInside s p (e .size) ≡ false) × (r ≡ moduleRecord e s p)
+      there = whole-module (endsInside s p (e .size)) (moduleRecord e s p) r read
 
       -- what the code tests of the record is what its rows say
       pub module-whole : {nodes : ℕ} → nodes ≡ nodesCounted s → r .output < 256 → {o : Outcome} → o ≡ first (recordRows (e .greatest) nodes (λ v. getD driven v false) p r)
@@ -98,7 +98,7 @@ module _ (e : Edition) (s : List ℕ) where
           → Reached e s count (m + 1) (p + e .size) (set modules m r) (set driven (r .output) true)
       unfolding anyBelow
       one-more-read l h small clear =
-          let is : r ≡ moduleAt e s m = there .1 ∙ ap (moduleRecord s) (reached .place) in
+          let is : r ≡ moduleAt e s m = there .1 ∙ ap (moduleRecord e s) (reached .place) in
           let out = ap (λ x. x .output) (module-of e s m (omega (arith, l, reached .records .counted)) ∙ sym is) in
           record {
             place = rw (reached .place, add-one m, mul-suc (e .size) m) (add-assoc (modulesPlace s + countSize) (e .size * m) (e .size));

@@ -46,7 +46,10 @@ fn wrong_nodes(m: Module, nodes: u16) -> bool
     if wrong_input(0 < n, m.first, nodes) {
         return true;
     }
-    wrong_input(1 < n, m.second, nodes)
+    if wrong_input(1 < n, m.second, nodes) {
+        return true;
+    }
+    wrong_input(2 < n, m.third, nodes)
 }
 
 // The refusal met in a record that stands at a place, after records that drive the flagged nodes.

@@ -4,7 +4,7 @@ use mathlib.Core.Path.{_≡_, refl}
 use Prim.Native.Nat.{ℕ}
 use Rattle.sheet.specs.Outcome.{finished, refused}
 use Rattle.sheet.specs.Enumerate.{anyBelow, each}
-use Rattle.sheet.specs.Layout.{firstEdition, sheetOf}
+use Rattle.sheet.specs.Layout.{firstEdition, secondEdition, sheetOf}
 use Rattle.sheet.specs.Loop.{leadsOver}
 use Rattle.sheet.specs.Refusal.{notAboveEvent, notAboveWatched, bytesRows, rows, first, checkedBy, checked, checkedStrictly}
 
@@ -59,3 +59,26 @@ begun-cut = (refl, refl)
 empty : checked firstEdition [] ≡ refused 2 0 0
 unfolding checkedBy rows bytesRows sheetOf first each anyBelow leadsOver notAboveEvent notAboveWatched
 empty = refl
+
+-- the second edition: a module of an input, twice, and of a third node, onto node 1
+third : ℕ → ℕ → ℕ → ℕ → List ℕ
+third kind parameter node delay =
+    2 ∷ 0 ∷ 4 ∷ 0
+    ∷ 1 ∷ 0 ∷ kind ∷ parameter ∷ 1 ∷ 0 ∷ 0 ∷ node ∷ delay ∷ 0
+    ∷ 0 ∷ 0
+    ∷ 0 ∷ 0 ∷ []
+
+-- a loop by the third input alone, with a delay and without
+third-accepted : checked secondEdition (third 12 0 1 1) ≡ finished 0
+unfolding third checkedBy rows bytesRows sheetOf first each anyBelow leadsOver notAboveEvent notAboveWatched
+third-accepted = refl
+
+third-loop : checked secondEdition (third 12 0 1 0) ≡ refused 18 1 0
+unfolding third checkedBy rows bytesRows sheetOf first each anyBelow leadsOver notAboveEvent notAboveWatched
+third-loop = refl
+
+-- kind 15 and kind 16; a parameter of kind 10; a third input that is no node, and one that is not used
+third-refused : (checked secondEdition (third 15 0 0 0) ≡ finished 0) × (checked secondEdition (third 16 0 0 0) ≡ refused 5 6 0) × (checked secondEdition (third 10 1 0 0) ≡ refused 6 6 0)
+    × (checked secondEdition (third 15 0 2 0) ≡ refused 7 6 0) × (checked secondEdition (third 5 0 1 0) ≡ refused 7 6 0)
+unfolding third checkedBy rows bytesRows sheetOf first each anyBelow leadsOver notAboveEvent notAboveWatched
+third-refused = (refl, refl, refl, refl, refl)

@@ -1,8 +1,12 @@
 -- Document 01, "The sheet": four sections in this order, each after its count of two bytes, and the records in them, as bytes.
--- An edition of the sheet fixes a module record's size and the greatest kind; this is all that tells editions apart.
+-- An edition of the sheet fixes a module record's size and the greatest kind; this is all that tells editions apart. Document 02's W-205
+-- adds the second, whose module records have a third input.
+use mathlib.Core.Bool.{Bool}
 use mathlib.Core.List.{List}
 use Prim.Native.Nat.{ℕ, _+_, _*_}
-use Rattle.level.specs.Kind.{lastKind}
+use lib.Dec.{ltb}
+use Rattle.level.specs.Choice.{if_then_else_}
+use Rattle.level.specs.Kind.{lastOfTwo, lastKind}
 use Rattle.sheet.specs.declared.Edition.{Edition}
 use Rattle.sheet.specs.declared.Module.{Module}
 use Rattle.sheet.specs.declared.Event.{Event}
@@ -10,9 +14,12 @@ use Rattle.sheet.specs.Bytes.{byteAt, wordAt, longAt}
 use Rattle.sheet.specs.Enumerate.{listed}
 use Rattle.sheet.specs.Sheet.{Sheet}
 
--- document 01's edition
+-- document 01's edition, and document 02's
 abbrev pub firstEdition : Edition
-firstEdition = record { size = 7; greatest = lastKind }
+firstEdition = record { size = 7; greatest = lastOfTwo }
+
+abbrev pub secondEdition : Edition
+secondEdition = record { size = 8; greatest = lastKind }
 
 -- the sizes of a count and of an event's record; a node's and a watched node's is one byte
 abbrev pub countSize : ℕ
@@ -31,7 +38,7 @@ nodePlace v = countSize + v
 abbrev pub nodeAt : List ℕ → ℕ → ℕ
 nodeAt s v = byteAt s (nodePlace v)
 
--- modules: kind, parameter, output node, first input, second input, delay
+-- modules: kind, parameter, output node, first input, second input, the third input in an edition that has one, delay
 abbrev pub modulesPlace : List ℕ → ℕ
 modulesPlace s = countSize + nodesCounted s
 
@@ -41,19 +48,30 @@ modulesCounted s = wordAt s (modulesPlace s)
 abbrev pub modulePlace : Edition → List ℕ → ℕ → ℕ
 modulePlace e s m = modulesPlace s + countSize + e .size * m
 
-abbrev pub moduleRecord : List ℕ → ℕ → Module
-moduleRecord s p =
+abbrev pub hasThird : Edition → Bool
+hasThird e = ltb 7 (e .size)
+
+-- a module of an edition without third inputs has 0 for it
+abbrev pub thirdAt : Edition → List ℕ → ℕ → ℕ
+thirdAt e s p = if hasThird e then byteAt s (p + 5) else 0
+
+abbrev pub delayPlace : Edition → ℕ → ℕ
+delayPlace e p = if hasThird e then p + 6 else p + 5
+
+abbrev pub moduleRecord : Edition → List ℕ → ℕ → Module
+moduleRecord e s p =
     record {
       kind = byteAt s p;
       parameter = byteAt s (p + 1);
       output = byteAt s (p + 2);
       first = byteAt s (p + 3);
       second = byteAt s (p + 4);
-      delay = wordAt s (p + 5);
+      third = thirdAt e s p;
+      delay = wordAt s (delayPlace e p);
     }
 
 abbrev pub moduleAt : Edition → List ℕ → ℕ → Module
-moduleAt e s m = moduleRecord s (modulePlace e s m)
+moduleAt e s m = moduleRecord e s (modulePlace e s m)
 
 -- drive: tick, input node, value
 abbrev pub drivePlace : Edition → List ℕ → ℕ

@@ -17,7 +17,7 @@ abbrev pub nodeRead : List ℕ → ℕ → NodeRead
 nodeRead s p = if endsInside s p 1 then NodeRead.Short else NodeRead.Whole (byteAt s p)
 
 abbrev pub moduleRead : Edition → List ℕ → ℕ → ModuleRead
-moduleRead e s p = if endsInside s p (e .size) then ModuleRead.Short else ModuleRead.Whole (moduleRecord s p)
+moduleRead e s p = if endsInside s p (e .size) then ModuleRead.Short else ModuleRead.Whole (moduleRecord e s p)
 
 abbrev pub eventRead : List ℕ → ℕ → EventRead
 eventRead s p = if endsInside s p eventSize then EventRead.Short else EventRead.Whole (eventRecord s p)

@@ -20,7 +20,7 @@ nodeByte S v = getD (S .nodes) v 0
 
 -- what stands past the end
 abbrev pub noModule : Module
-noModule = record { kind = 0; parameter = 0; output = 0; first = 0; second = 0; delay = 0 }
+noModule = record { kind = 0; parameter = 0; output = 0; first = 0; second = 0; third = 0; delay = 0 }
 
 abbrev pub moduleCount : Sheet → ℕ
 moduleCount S = length (S .modules)

@@ -13,7 +13,7 @@ use Rattle.sheet.specs.Sheet.{Sheet, nodeCount, moduleCount, moduleOf, o
 
 -- the inputs that a record has, used or not
 abbrev pub inputs : Module → List ℕ
-inputs m = m .first ∷ m .second ∷ []
+inputs m = m .first ∷ m .second ∷ m .third ∷ []
 
 abbrev pub moduleRule : Module → Rule
 moduleRule m = ruleOf (m .kind) (m .parameter)

@@ -1,9 +1,9 @@
 // The sheet's bytes: its records, and reading them.
 use level::Level;
 ghost use mathlib.Core.Path.{_≡_};
-ghost use Prim.Native.Nat.{_<_};
+ghost use Prim.Native.Nat.{_+_, _<_, _≤_};
 ghost use Rattle.sheet.specs.Bytes.{byteAt, wordAt, longAt};
-ghost use Rattle.sheet.specs.Layout.{firstEdition, moduleRecord, eventRecord};
+ghost use Rattle.sheet.specs.Layout.{firstEdition, secondEdition, hasThird, thirdAt, delayPlace, moduleRecord, eventRecord};
 ghost use Rattle.sheet.specs.Reading.{countRead, nodeRead, moduleRead, eventRead};
 
 // The sizes of a count and of an event's record; a node's and a watched node's is one byte.
@@ -51,18 +51,32 @@ pub const GREATEST_HORIZON: u32 = 1000000;
 
 pub const PENDING_LIMIT: usize = 4096;
 
+// The size of a module's record in document 01's edition, and in document 02's, which has a third input.
+const FIRST_SIZE: u8 = 7;
+
+const SECOND_SIZE: u8 = 8;
+
 // What tells editions of the sheet apart: a module record's size in bytes, and the greatest kind.
 pub struct Edition {
     pub size: u8,
     pub greatest: u8,
 }
 
-// Document 01's edition.
+// Document 01's edition, and document 02's.
 pub fn first_edition() -> Edition
     ensures { λ r. ⌜ r ≡ firstEdition ⌝ }
 {
     Edition {
-        size: 7,
+        size: FIRST_SIZE,
+        greatest: level::LAST_OF_TWO,
+    }
+}
+
+pub fn second_edition() -> Edition
+    ensures { λ r. ⌜ r ≡ secondEdition ⌝ }
+{
+    Edition {
+        size: SECOND_SIZE,
         greatest: level::LAST_KIND,
     }
 }
@@ -82,6 +96,7 @@ pub struct Module {
     pub output: u8,
     pub first: u8,
     pub second: u8,
+    pub third: u8,
     pub delay: u16,
 }
 
@@ -99,6 +114,7 @@ pub const NO_MODULE: Module = Module {
     output: 0,
     first: 0,
     second: 0,
+    third: 0,
     delay: 0,
 };
 
@@ -181,18 +197,49 @@ pub fn node_at(s: &[u8], p: u32) -> NodeRead
     }
 }
 
+// Whether an edition's module records have a third input.
+fn has_third(e: Edition) -> bool
+    ensures { λ r. ⌜ r ≡ hasThird e ⌝ }
+{
+    FIRST_SIZE < e.size
+}
+
+// The third input of the module's record at a place, 0 in an edition that has none.
+fn third_at(e: Edition, s: &[u8], p: u32) -> u8
+    ensures { λ r. ⌜ r ≡ thirdAt e (now (s .entry)) p ⌝ }
+{
+    if has_third(e) {
+        byte(s, (p as usize) + 5)
+    } else {
+        0
+    }
+}
+
+// Where the delay stands in the module's record at a place.
+fn delay_place(e: Edition, p: u32) -> usize
+    ensures { λ r. ⌜ (r ≡ delayPlace e p) × (r ≤ p + 6) ⌝ }
+{
+    if has_third(e) {
+        (p as usize) + 6
+    } else {
+        (p as usize) + 5
+    }
+}
+
 // The module's record at a place, and zeros past the end.
-pub fn module_record(s: &[u8], p: u32) -> Module
-    ensures { λ r. ⌜ r ≡ moduleRecord (now (s .entry)) p ⌝ }
+pub fn module_record(e: Edition, s: &[u8], p: u32) -> Module
+    ensures { λ r. ⌜ r ≡ moduleRecord e (now (s .entry)) p ⌝ }
 {
     let at = p as usize;
-    let delay = at + 5;
+    let third = third_at(e, s, p);
+    let delay = delay_place(e, p);
     Module {
         kind: byte(s, at),
         parameter: byte(s, at + 1),
         output: byte(s, at + 2),
         first: byte(s, at + 3),
         second: byte(s, at + 4),
+        third,
         delay: (byte(s, delay) as u16) + 256 * (byte(s, delay + 1) as u16),
     }
 }
@@ -203,7 +250,7 @@ pub fn module_at(e: Edition, s: &[u8], p: u32) -> ModuleRead
     if s.len() < (p as usize) + (e.size as usize) {
         ModuleRead::Short
     } else {
-        ModuleRead::Whole(module_record(s, p))
+        ModuleRead::Whole(module_record(e, s, p))
     }
 }
 

@@ -2,7 +2,7 @@
 use mathlib.Core.Bool.{Bool}
 use mathlib.Core.List.{List, [], _∷_, map}
 use mathlib.Core.Path.{_≡_, _∙_, refl, ap}
-use Prim.Native.Nat.{ℕ, zero, suc, _+_, _-_, _*_, _%_, _<_, _≤_}
+use Prim.Native.Nat.{ℕ, zero, suc, _+_, _-_, _*_, _%_, _<_}
 use native.Mathlib.Nat.{add-zero}
 use native.Mathlib.Omega.{arith}
 use lib.ListN.{length, getD, take, drop, length-drop}
@@ -11,11 +11,11 @@ use Rattle.level.specs.Choice.{if_then_else_}
 use Rattle.level.specs.Gate.{member}
 use Rattle.level.specs.Rule.{inputsOf, comesTo}
 use Rattle.level.specs.Kind.{ruleOf}
-use Rattle.level.specs.Table.{tableStart, tables}
-use Rattle.level.proofs.Gates.{length-tables, values-take, same-inputs, length-used, gate-same, level-bound, inputs-one, inputs-two, one-entry, two-entry}
+use Rattle.level.specs.Table.{tableStart, placeOf, tables}
+use Rattle.level.proofs.Gates.{length-tables, values-take, same-inputs, length-used, gate-same, level-bound, Values, Tabled, entry-at}
 use Rattle.model.specs.Passes.{comesToNow}
-use Rattle.tick.specs.Tables.{tableAt, modulesIn}
-use Rattle.tick.specs.Rest.{Known}
+use Rattle.tick.specs.Tables.{tableAt, ruleAt, inputAtTable, comesToFrom, modulesIn}
+use Rattle.tick.specs.Rest.{Known, Levels}
 use Rattle.tick.proofs.Tables.{module-at}
 
 -- what is done with each of the first n may be done before they are taken
@@ -24,48 +24,71 @@ map-take f zero l = refl
 map-take f (suc n) [] = refl
 map-take f (suc n) (a ∷ l) = ap (λ r. f a ∷ r) (map-take f n l)
 
--- a table that begins at a place is within the part from there on
-pub within : (g : List ℕ) (from n i : ℕ) → g ≡ tables → from + n ≤ 104 → i < n → i < length (take (length g - from) (drop from g))
-within g from n i e l h =
+-- a place of the tables is within the part from an earlier one on
+pub within : (g : List ℕ) (from i : ℕ) → g ≡ tables → from + i < 488 → i < length (take (length g - from) (drop from g))
+within g from i e h =
     let long = ap length e ∙ length-tables in
     rw (length-take-le (length g - from) (drop from g) (omega (arith, length-drop from g))) (omega arith)
 
 -- an entry of that part
-entry-of-part : (g : List ℕ) (from i : ℕ) → g ≡ tables → from + i < 104 → getD (take (length g - from) (drop from g)) i 0 ≡ getD tables (from + i) 0
+pub entry-of-part : (g : List ℕ) (from i : ℕ) → g ≡ tables → from + i < 488 → getD (take (length g - from) (drop from g)) i 0 ≡ getD tables (from + i) 0
 entry-of-part g from i e h =
     let long = ap length e ∙ length-tables in
     getD-take (length g - from) (drop from g) i 0 (omega arith) ∙ getD-drop from g i 0 ∙ ap (λ (l : List ℕ). getD l (from + i) 0) e
 
--- the values of the used inputs, of two
-abbrev used : ℕ → ℕ → ℕ → ℕ → List ℕ
-used kind parameter first second = take (inputsOf (ruleOf kind parameter)) (first ∷ second ∷ [])
+-- what a module of three inputs, of which its kind uses some, comes to
+module _ (kind parameter first second third held : ℕ) where
+  abbrev inputs : List ℕ
+  inputs = first ∷ second ∷ third ∷ []
 
-module _ {kind parameter first second held : ℕ} (known : Known kind parameter) (f : first < 4) (s : second < 4) (h : held < 4) where
   abbrev Comes : ℕ → Type 0
-  Comes r = r ≡ comesTo (ruleOf kind parameter) (used kind parameter first second) held
+  Comes r = r ≡ comesTo (ruleOf kind parameter) (take (inputsOf (ruleOf kind parameter)) inputs) held
 
-  pub with-bound : {r : ℕ} → Comes r → Comes r × (r < 4)
-  with-bound e =
-      (e, rw e (level-bound kind parameter _ held (λ z. let p = rw z at known .allowed in omega arith) (length-used kind parameter _ (omega arith)) (values-take (inputsOf (ruleOf kind parameter)) _ (f, (s, tt))) h))
+  constant : {r : ℕ} → kind ≡ 0 → ((inputs : List ℕ) (held : ℕ) → r ≡ comesTo (ruleOf 0 parameter) inputs held) → Comes r
+  constant e c = rw e (c (take (inputsOf (ruleOf 0 parameter)) inputs) held)
 
-  pub constant : {r : ℕ} → kind ≡ 0 → ((inputs : List ℕ) (held : ℕ) → r ≡ comesTo (ruleOf 0 parameter) inputs held) → Comes r
-  constant e c = rw e (c (used 0 parameter first second) held)
+  memory : {r : Bool} → kind ≡ 9 → second < 4 → r ≡ member parameter (second % 4) → Comes (if r then first else held)
+  memory {r} e s m = let q : second % 4 ≡ second = omega arith in rw (e, m, q)
 
-  pub gate-of-one : (g : List ℕ) (from : ℕ) → g ≡ tables → from ≡ tableStart kind → from + 4 ≤ 104 → 1 ≤ kind → kind ≤ 2 → Comes (getD (take (length g - from) (drop from g)) first 0)
-  gate-of-one g from e b l one two =
-      entry-of-part g from first e (omega arith)
-      ∙ rw (b, same-inputs kind parameter, inputs-one kind one two, gate-same kind parameter (first ∷ []) held one (omega arith)) (one-entry kind first one two f)
+  module _ (v : Values inputs) where
+    with-bound : {r : ℕ} → Known kind parameter → held < 4 → Comes r → Comes r × (r < 4)
+    with-bound known h e =
+        (e, rw e (level-bound kind parameter _ held (λ z. let p = rw z at known .allowed in omega arith) (length-used kind parameter inputs (omega arith)) (values-take (inputsOf (ruleOf kind parameter)) inputs v) h))
 
-  pub gate-of-two : (g : List ℕ) (from : ℕ) → g ≡ tables → from ≡ tableStart kind → from + 16 ≤ 104 → 3 ≤ kind → kind ≤ 8 → Comes (getD (take (length g - from) (drop from g)) (4 * first + second) 0)
-  gate-of-two g from e b l three eight =
-      entry-of-part g from _ e (omega arith)
-      ∙ rw (b, same-inputs kind parameter, inputs-two kind three eight, gate-same kind parameter (first ∷ second ∷ []) held (omega arith) eight) (two-entry kind first second three eight f s)
+    -- a gate of n inputs: the entry at its inputs' place
+    gate-of : {n start : ℕ} → Tabled kind n start → {r : ℕ} (from i : ℕ) → r ≡ getD tables (from + i) 0 → from ≡ tableStart kind → i ≡ placeOf (take n inputs) → Comes r
+    gate-of {n} gate from i e b p =
+        e
+        ∙ rw (b, same-inputs kind parameter, gate .inputs, gate-same kind parameter (take n inputs) held (gate .has-table))
+        (entry-at gate (take n inputs) i (rw (gate .inputs) at (length-used kind 0 inputs (omega arith))) (values-take n inputs v) p)
 
-  pub memory : {r : Bool} → kind ≡ 9 → r ≡ member parameter (second % 4) → Comes (if r then first else held)
-  memory {r} e m = let q : second % 4 ≡ second = omega arith in rw (e, m, q)
+-- the same of a module whose bytes begin at a place of the table, by what is looked up there
+module _ (table values : List ℕ) (at held : ℕ) (levels : Levels values) where
+  abbrev kindAt : ℕ
+  kindAt = getD table at 0
+
+  abbrev input : ℕ → ℕ
+  input f = inputAtTable table (at + f) values
+
+  abbrev ComesAt : ℕ → Type 0
+  ComesAt r = r ≡ comesToFrom table at values held
+
+  at-values : Values (input 3 ∷ input 4 ∷ input 5 ∷ [])
+  at-values = (levels .each _, (levels .each _, (levels .each _, tt)))
+
+  pub bound-at : {r : ℕ} → Known kindAt (getD table (at + 1) 0) → held < 4 → ComesAt r → ComesAt r × (r < 4)
+  bound-at known h e = with-bound kindAt (getD table (at + 1) 0) (input 3) (input 4) (input 5) held at-values known h e
+
+  pub constant-at : {r : ℕ} → kindAt ≡ 0 → ((inputs : List ℕ) (held : ℕ) → r ≡ comesTo (ruleOf 0 (getD table (at + 1) 0)) inputs held) → ComesAt r
+  constant-at = constant kindAt (getD table (at + 1) 0) (input 3) (input 4) (input 5) held
+
+  pub gate-at : {n start : ℕ} → Tabled kindAt n start → {r : ℕ} (from i : ℕ) → r ≡ getD tables (from + i) 0 → from ≡ tableStart kindAt → i ≡ placeOf (take n (input 3 ∷ input 4 ∷ input 5 ∷ [])) → ComesAt r
+  gate-at gate from i = gate-of kindAt (getD table (at + 1) 0) (input 3) (input 4) (input 5) held at-values gate from i
+
+  pub memory-at : {a b : ℕ} {r : Bool} → a ≡ input 3 → b ≡ input 4 → kindAt ≡ 9 → r ≡ member (getD table (at + 1) 0) (b % 4) → ComesAt (if r then a else held)
+  memory-at p q e m = rw p (memory kindAt (getD table (at + 1) 0) (input 3) (input 4) (input 5) held e (levels .each _) (rw q at m))
 
 -- the module at position k of the table, at its bytes
-pub comes-now : (table delays values last : List ℕ) (n k : ℕ) → k < n
-    → comesToNow (modulesIn table delays n) values last k ≡ comesTo (ruleOf (getD table (8 * k) 0) (tableAt table k 1)) (used (getD table (8 * k) 0) (tableAt table k 1) (getD values (tableAt table k 3) 0) (getD values (tableAt table k 4) 0)) (getD last k 0)
+pub comes-now : (table delays values last : List ℕ) (n k : ℕ) → k < n → comesToNow (modulesIn table delays n) values last k ≡ comesToFrom table (8 * k) values (getD last k 0)
 comes-now table delays values last n k h =
-    rw (module-at table delays n k h, add-zero (8 * k), map-take (λ v. getD values v 0) (inputsOf (ruleOf (getD table (8 * k) 0) (tableAt table k 1))) (tableAt table k 3 ∷ tableAt table k 4 ∷ []))
+    rw (module-at table delays n k h, add-zero (8 * k), map-take (λ v. getD values v 0) (inputsOf (ruleAt table (8 * k))) (tableAt table k 3 ∷ tableAt table k 4 ∷ tableAt table k 5 ∷ []))

@@ -3,7 +3,7 @@ use mathlib.Core.List.{List, [], _∷_, _++_}
 use mathlib.Core.Path.{_≡_, refl, ap, ap₂, _∙_}
 use Prim.Native.Nat.{ℕ, zero, suc, _+_, _*_, _<_, _≤_}
 use native.Mathlib.Nat.{add-zero, le-refl, le-step, le-of-suc-le-suc, not-suc-le-zero}
-use native.Mathlib.Numerals.{add-one, add-two, add-three, add-four}
+use native.Mathlib.Numerals.{add-one, add-two, add-three, add-four, add-five}
 use native.Mathlib.Omega.{arith}
 use lib.ListN.{length, getD, set, length-set}
 use lib.Seq.{getD-set-same, getD-set-other, sets}
@@ -58,7 +58,7 @@ sets-at (v ∷ vs) l p (suc i) h b = rw next (sets-at vs (set l p v) (suc p) i (
     next = omega arith
 
 abbrev bytes : Module → List ℕ
-bytes m = m .kind ∷ m .parameter ∷ m .output ∷ m .first ∷ m .second ∷ []
+bytes m = m .kind ∷ m .parameter ∷ m .output ∷ m .first ∷ m .second ∷ m .third ∷ []
 
 -- a module put to position k
 module _ {table delays table′ delays′ : List ℕ} {k : ℕ} {m : Module} (p : ModulePut table delays k m table′ delays′) where
@@ -69,21 +69,21 @@ module _ {table delays table′ delays′ : List ℕ} {k : ℕ} {m : Module} (p 
   delays-same-size = rw (p .delay) (length-set delays k (m .delay))
 
   as-sets : table′ ≡ sets table (8 * k) (bytes m)
-  as-sets = rw (p .bytes, add-one, add-two, add-three, add-four)
+  as-sets = rw (p .bytes, add-one, add-two, add-three, add-four, add-five)
 
   before : (j f : ℕ) → j < k → f < 8 → tableAt table′ j f ≡ tableAt table j f
   before j f l b = rw as-sets (sets-below (bytes m) table (8 * k) (8 * j + f) (omega arith))
 
-  here : length table ≡ 2048 → k < 256 → (f : ℕ) → f < 5 → tableAt table′ k f ≡ getD (bytes m) f 0
+  here : length table ≡ 2048 → k < 256 → (f : ℕ) → f < 6 → tableAt table′ k f ≡ getD (bytes m) f 0
   here size h f b = rw as-sets (sets-at (bytes m) table (8 * k) f b (omega arith))
 
   pub modules-more : length table ≡ 2048 → length delays ≡ 256 → k < 256 → modulesIn table′ delays′ (k + 1) ≡ modulesIn table delays k ++ m ∷ []
   unfolding modulesIn
   modules-more size delays-size h =
       listed-more (moduleAtTable table delays) (moduleAtTable table′ delays′) k m
-      (λ j l. rw (before j 0 l (omega arith), before j 1 l (omega arith), before j 2 l (omega arith), before j 3 l (omega arith), before j 4 l (omega arith), p .delay, getD-set-other delays k j (m .delay) 0 (omega arith)))
+      (λ j l. rw (before j 0 l (omega arith), before j 1 l (omega arith), before j 2 l (omega arith), before j 3 l (omega arith), before j 4 l (omega arith), before j 5 l (omega arith), p .delay, getD-set-other delays k j (m .delay) 0 (omega arith)))
       (let at = here size h in
-      rw (at 0 (omega arith), at 1 (omega arith), at 2 (omega arith), at 3 (omega arith), at 4 (omega arith), p .delay, getD-set-same delays k (m .delay) 0 (omega arith)))
+      rw (at 0 (omega arith), at 1 (omega arith), at 2 (omega arith), at 3 (omega arith), at 4 (omega arith), at 5 (omega arith), p .delay, getD-set-same delays k (m .delay) 0 (omega arith)))
 
 -- an event put under number e
 module _ {ticks nodes levels ticks′ nodes′ levels′ : List ℕ} {e : ℕ} {event : Event} (p : EventPut ticks nodes levels e event ticks′ nodes′ levels′) where

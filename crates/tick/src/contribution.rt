@@ -7,36 +7,60 @@ use level::MEMORY;
 use sheet::MODULES;
 use sheet::NODES;
 use sheet::wide;
-ghost use mathlib.Core.List.{List, [], _∷_};
+ghost use mathlib.Core.List.{List};
 ghost use mathlib.Core.Path.{_≡_};
-ghost use Prim.Native.Nat.{ℕ, _<_};
-ghost use lib.ListN.{take};
-ghost use Rattle.level.specs.Rule.{inputsOf, comesTo};
-ghost use Rattle.level.specs.Kind.{ruleOf};
+ghost use Prim.Native.Nat.{ℕ, _+_, _<_};
+ghost use lib.ListN.{getD};
 ghost use Rattle.level.specs.Table.{tables};
 ghost use Rattle.sheet.specs.Limits.{mostModules};
 ghost use Rattle.model.specs.Passes.{moduleIn, give, comesToNow};
-ghost use Rattle.tick.specs.Tables.{tableAt, modulesIn};
+ghost use Rattle.tick.specs.Tables.{tableSize, tableAt, modulesIn, comesToFrom};
 ghost use Rattle.tick.specs.Rest.{Known, Levels};
 
-// What a module comes to at its inputs' values, holding the value that it came to last.
-fn rule(gates: &[u8], kind: u8, parameter: u8, first: u8, second: u8, held: u8) -> u8
-    requires { ⌜ (now gates ≡ tables) × Known kind parameter × (first < 4) × (second < 4) × (held < 4) ⌝ }
-    ensures { λ r. ⌜ (r ≡ comesTo (ruleOf kind parameter) (take (inputsOf (ruleOf kind parameter)) (first ∷ second ∷ [])) held)
-        × (r < 4) ⌝ }
+// The value of the node whose number stands at a place of the table.
+fn input_at(table: &[u8; TABLE], at: usize, values: &[u8; NODES]) -> u8
+    requires { ⌜ (at < tableSize) × Levels (now values) ⌝ }
+    ensures { λ r. ⌜ (r ≡ getD (now (values .entry)) (getD (now (table .entry)) at 0) 0) × (r < 4) ⌝ }
 {
-    if kind == CONSTANT {
-        return Level::constant(parameter);
-    }
+    values[wide(table[at])]
+}
+
+// An entry of a table, counted from the table's start. It is read in the part from there on, and not at a sum: the start depends on the
+// kind alone, so that a chain of gates waits for one load a gate.
+fn entry(gates: &[u8], start: usize, i: usize) -> u8
+    requires { ⌜ (now gates ≡ tables) × (start + i < 488) ⌝ }
+    ensures { λ r. ⌜ r ≡ getD tables (start + i) 0 ⌝ }
+{
+    let row = &gates[start..];
+    row[i]
+}
+
+// What the module whose bytes begin at a place of the table comes to over the present values, holding the value that it came to last.
+// The second and the third input are looked up for kinds that use them alone. Kinds 0 to 2 are told apart first, which is faster.
+fn rule(gates: &[u8], table: &[u8; TABLE], at: usize, values: &[u8; NODES], held: u8) -> u8
+    requires { ⌜ (at + 5 < tableSize) × (now gates ≡ tables) × Known (getD (now table) at 0) (getD (now table) (at + 1) 0)
+        × Levels (now values) × (held < 4) ⌝ }
+    ensures { λ r. ⌜ (r ≡ comesToFrom (now (table .entry)) at (now (values .entry)) held) × (r < 4) ⌝ }
+{
+    let kind = table[at];
+    let first = input_at(table, at + 3, values);
     if kind <= LAST_OF_ONE {
-        let row = &gates[Level::start_of_one(kind)..];
-        return row[wide(first)];
+        if kind == CONSTANT {
+            return Level::constant(table[at + 1]);
+        }
+        return entry(gates, Level::start_of_one(kind), wide(first));
     }
+    let second = input_at(table, at + 4, values);
     if kind < MEMORY {
-        let row = &gates[Level::start_of_two(kind)..];
-        return row[4 * wide(first) + wide(second)];
+        let place = 4 * wide(first) + wide(second);
+        return entry(gates, Level::start_of_two(kind), place);
     }
-    if Level::in_set(parameter, second) {
+    if MEMORY < kind {
+        let third = input_at(table, at + 5, values);
+        let place = 16 * wide(first) + 4 * wide(second) + wide(third);
+        return entry(gates, Level::start_of_three(kind), place);
+    }
+    if Level::in_set(table[at + 1], second) {
         first
     } else {
         held
@@ -57,10 +81,7 @@ pub(crate) fn comes_to(
         → r ≡ comesToNow (modulesIn (now (table .entry)) delays n) (now (values .entry)) (now (last .entry)) k)
         × (r < 4) ⌝ }
 {
-    let at = 8 * k;
-    let first = values[wide(table[at + 3])];
-    let second = values[wide(table[at + 4])];
-    rule(gates, table[at], table[at + 1], first, second, last[k])
+    rule(gates, table, 8 * k, values, last[k])
 }
 
 // What the module at position k contributes reaches its output node here, and nowhere else.

@@ -21,6 +21,7 @@ pub fn load_module(m: Module, k: usize, table: &mut [u8; TABLE], delays: &mut [u
     table[at + 2] = m.output;
     table[at + 3] = m.first;
     table[at + 4] = m.second;
+    table[at + 5] = m.third;
     delays[k] = m.delay;
 }
 

@@ -1,9 +1,9 @@
-// The library: what users call, and what each call promises.
+// The library: what users call, and what each call promises. A call that takes a sheet is there for each edition, the second's with _2.
 pub use sentence::describe;
 pub use sheet::Answer;
 use sheet::Edition;
 ghost use mathlib.Core.Path.{_≡_};
-ghost use Rattle.sheet.specs.Layout.{firstEdition};
+ghost use Rattle.sheet.specs.Layout.{firstEdition, secondEdition};
 ghost use Rattle.sheet.specs.Outcome.{outcomeOf};
 ghost use Rattle.sheet.specs.Refusal.{checkedBy, checked, checkedStrictly};
 ghost use Rattle.network.specs.Run.{RunLeaves};
@@ -30,11 +30,23 @@ pub fn check(sheet: &[u8]) -> Answer
     check_in(false, sheet::first_edition(), sheet)
 }
 
+pub fn check_2(sheet: &[u8]) -> Answer
+    ensures { λ r. ⌜ outcomeOf r ≡ checked secondEdition (now (sheet .entry)) ⌝ }
+{
+    check_in(false, sheet::second_edition(), sheet)
+}
+
 // Checks a sheet and that each of its inputs has an event at tick 0: refusals 2 to 18, or a finished call with count 0.
 pub fn check_strict(sheet: &[u8]) -> Answer
     ensures { λ r. ⌜ outcomeOf r ≡ checkedStrictly firstEdition (now (sheet .entry)) ⌝ }
 {
     check_in(true, sheet::first_edition(), sheet)
+}
+
+pub fn check_strict_2(sheet: &[u8]) -> Answer
+    ensures { λ r. ⌜ outcomeOf r ≡ checkedStrictly secondEdition (now (sheet .entry)) ⌝ }
+{
+    check_in(true, sheet::second_edition(), sheet)
 }
 
 // Runs a sheet to a horizon: refusals 1 to 20 except 15, or a finished run with the count of its records.
@@ -43,4 +55,10 @@ pub fn run(sheet: &[u8], horizon: u32, listing: &mut [u8]) -> Answer
     ensures { λ r. ⌜ RunLeaves firstEdition (now (sheet .entry)) horizon (now (listing .entry)) (outcomeOf r) (now (listing .exit)) ⌝ }
 {
     run::run(sheet::first_edition(), sheet, horizon, listing)
+}
+
+pub fn run_2(sheet: &[u8], horizon: u32, listing: &mut [u8]) -> Answer
+    ensures { λ r. ⌜ RunLeaves secondEdition (now (sheet .entry)) horizon (now (listing .entry)) (outcomeOf r) (now (listing .exit)) ⌝ }
+{
+    run::run(sheet::second_edition(), sheet, horizon, listing)
 }

@@ -1,7 +1,8 @@
-// The library's entry points for other languages. A slice passes as a pointer and a length.
+// The library's entry points for other languages. A slice passes as a pointer and a length. A call that takes a sheet is there for each
+// edition, the second's with _2.
 use timing::Answer;
 ghost use mathlib.Core.Path.{_≡_};
-ghost use Rattle.sheet.specs.Layout.{firstEdition};
+ghost use Rattle.sheet.specs.Layout.{firstEdition, secondEdition};
 ghost use Rattle.sheet.specs.Outcome.{Outcome, outcomeOf, numbers, fromNumbers};
 ghost use Rattle.sheet.specs.Refusal.{checked, checkedStrictly};
 ghost use Rattle.network.specs.Run.{RunLeaves};
@@ -35,10 +36,24 @@ pub extern "C" fn timing_check(sheet: &[u8], answer: &mut [u32; 3])
 }
 
 #[no_mangle]
+pub extern "C" fn timing_check_2(sheet: &[u8], answer: &mut [u32; 3])
+    ensures { λ _. ⌜ now (answer .exit) ≡ numbers (checked secondEdition (now (sheet .entry))) ⌝ }
+{
+    *answer = numbers_of(timing::check_2(sheet));
+}
+
+#[no_mangle]
 pub extern "C" fn timing_check_strict(sheet: &[u8], answer: &mut [u32; 3])
     ensures { λ _. ⌜ now (answer .exit) ≡ numbers (checkedStrictly firstEdition (now (sheet .entry))) ⌝ }
 {
     *answer = numbers_of(timing::check_strict(sheet));
+}
+
+#[no_mangle]
+pub extern "C" fn timing_check_strict_2(sheet: &[u8], answer: &mut [u32; 3])
+    ensures { λ _. ⌜ now (answer .exit) ≡ numbers (checkedStrictly secondEdition (now (sheet .entry))) ⌝ }
+{
+    *answer = numbers_of(timing::check_strict_2(sheet));
 }
 
 // The three numbers are those of the answer that the run leaves.
@@ -48,6 +63,19 @@ pub extern "C" fn timing_run(sheet: &[u8], horizon: u32, listing: &mut [u8], ans
         × RunLeaves firstEdition (now (sheet .entry)) horizon (now (listing .entry)) o (now (listing .exit))) ⌝ }
 {
     *answer = numbers_of(timing::run(sheet, horizon, listing));
+}
+
+#[no_mangle]
+pub extern "C" fn timing_run_2(
+    sheet: &[u8],
+    horizon: u32,
+    listing: &mut [u8],
+    answer: &mut [u32; 3],
+)
+    ensures { λ _. ⌜ ((o : Outcome) × (now (answer .exit) ≡ numbers o)
+        × RunLeaves secondEdition (now (sheet .entry)) horizon (now (listing .entry)) o (now (listing .exit))) ⌝ }
+{
+    *answer = numbers_of(timing::run_2(sheet, horizon, listing));
 }
 
 // Describes the answer that three numbers stand for.

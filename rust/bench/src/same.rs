@@ -15,6 +15,9 @@
 //! release build of Rust leaves the test out. Only this side tests indices, where rustc cannot see
 //! that they are good.
 //!
+//! The three passes that loop over modules and changes are not inlined: together in one function, the
+//! time of one would hang on how the others are compiled.
+//!
 //! Reading the sheet is left to the plain simulator: a few milliseconds of a run.
 
 mod changes;
@@ -23,16 +26,16 @@ mod tables;
 mod tick;
 
 use generate::limits::{LAST_HORIZON, MOST_PENDING, RECORD_BYTES};
-use plain::Sheet;
+use plain::{Edition, Sheet};
 
 use tick::Tick;
 
 /// Runs the sheet as the library does.
-pub fn run(sheet: &[u8], horizon: u32, listing: &mut [u8]) -> [u32; 3] {
+pub fn run(edition: Edition, sheet: &[u8], horizon: u32, listing: &mut [u8]) -> [u32; 3] {
     if horizon == 0 || horizon > LAST_HORIZON {
         return [1, 0, 0];
     }
-    match plain::read(sheet) {
+    match plain::read(edition, sheet) {
         Ok(sheet) => ticks(&sheet, horizon, listing),
         Err(refusal) => refusal.triple(),
     }

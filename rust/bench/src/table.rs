@@ -4,7 +4,7 @@ use std::fmt;
 
 use crate::outside::Simulator;
 use crate::same;
-use crate::timed::{self, Timed};
+use crate::timed::{self, Run, Timed};
 use crate::workload::Workload;
 
 /// How often the library and the same algorithm in safe Rust are run; the least time counts.
@@ -43,12 +43,10 @@ pub struct Row {
 impl Row {
     /// Times one workload with everything.
     pub fn timed(workload: &Workload, horizon: u32, simulators: &[Simulator]) -> Row {
-        let sheet = &workload.sheet;
-        let library = timed::run(compare::run, TIMES, sheet, horizon);
-        let ours = [
-            timed::run(same::run, TIMES, sheet, horizon),
-            timed::run(timed::plain, 1, sheet, horizon),
-        ];
+        let Workload { edition, sheet, .. } = workload;
+        let time = |run: Run, times| timed::run(run, times, *edition, sheet, horizon);
+        let library = time(compare::run, TIMES);
+        let ours = [time(same::run, TIMES), time(timed::plain, 1)];
         let outside = simulators
             .iter()
             .map(|simulator| simulator.run(sheet, horizon).expect(simulator.name));

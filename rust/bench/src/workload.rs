@@ -2,21 +2,32 @@
 
 use generate::sheets::*;
 use generate::{Generator, Start};
-use plain::{Sheet, HIGH, INPUT, LOW};
+use plain::{Edition, Sheet, HIGH, INPUT, LOW};
 
 pub struct Workload {
     pub name: &'static str,
+    pub edition: Edition,
     pub sheet: Sheet,
 }
 
 pub fn all() -> Vec<Workload> {
-    let workload = |name, sheet| Workload { name, sheet };
+    let of = |edition, name, sheet| Workload {
+        name,
+        edition,
+        sheet,
+    };
+    let first = |name, sheet| of(Edition::First, name, sheet);
     vec![
-        workload("ring of 253, all toggling", toggling_ring(253)),
-        workload("ring of 255, one change", travelling_ring(255)),
-        workload("255 random gates", random_gates()),
-        workload("zero-delay chain of 128", zero_delay_chain(128)),
-        workload("sparse, long delays", sparse()),
+        first("ring of 253, all toggling", toggling_ring(253)),
+        first("ring of 255, one change", travelling_ring(255)),
+        first("255 random gates", random_gates(Edition::First, 10)),
+        first("zero-delay chain of 128", zero_delay_chain(128)),
+        first("sparse, long delays", sparse()),
+        of(
+            Edition::Second,
+            "255 gates of three inputs",
+            random_gates(Edition::Second, 24),
+        ),
     ]
 }
 
@@ -43,8 +54,8 @@ fn travelling_ring(nodes: usize) -> Sheet {
 
 /// Gates with delays of 1 to 100, from a seed with which they stay lively and never have more
 /// than 4,096 changes pending.
-fn random_gates() -> Sheet {
-    let mut sheet = Generator::new(10).gates(255, 100, Start::AtOnce);
+fn random_gates(edition: Edition, seed: u64) -> Sheet {
+    let mut sheet = Generator::of(edition, seed).gates(255, 100, Start::AtOnce);
     sheet.watched = vec![0, 100];
     sheet
 }

@@ -1,7 +1,7 @@
 //! What simulators that are not ours print gives records with ends, whether or not they are installed.
 
 use bench::outside;
-use plain::{read, worked_run};
+use plain::worked_run;
 
 /// The times of the worked run's changes and the values of nodes 0 and 1 from then on, counted from
 /// tick 0. The last line is past the horizon.
@@ -23,7 +23,7 @@ fn printed(tick_0: u32) -> String {
 
 #[test]
 fn the_worked_run() {
-    let sheet = read(worked_run::SHEET).expect("it is accepted");
+    let sheet = worked_run::sheet();
     let [icarus, ghdl] = outside::ALL;
     for (simulator, tick_0) in [(icarus, 1), (ghdl, 0)] {
         let records = simulator.records(&sheet, worked_run::HORIZON, &printed(tick_0));

@@ -3,7 +3,7 @@
 
 use bench::translate::{verilog, vhdl};
 use generate::sheets::*;
-use plain::{read, worked_run, Module, HIGH, INPUT, LOW, NONE};
+use plain::{worked_run, Module, HIGH, INPUT, LOW, NONE};
 
 const WORKED_VERILOG: &str = r#"`timescale 1ns/1ns
 module sheet;
@@ -35,7 +35,7 @@ end run;
 
 #[test]
 fn the_worked_run() {
-    let sheet = read(worked_run::SHEET).expect("it is accepted");
+    let sheet = worked_run::sheet();
     assert_eq!(verilog::text(&sheet, worked_run::HORIZON), WORKED_VERILOG);
     assert_eq!(vhdl::text(&sheet, worked_run::HORIZON), WORKED_VHDL);
 }
@@ -120,6 +120,31 @@ fn kinds_with_two_inputs() {
         "always @(go or n0 or n1) if (go) n2 <= #7 n1 ? ~n0 : 1'bz;",
         "n2 <= transport not n0 after 7 ns when n1 = '1' else 'Z' after 7 ns when n1 = '0' \
          else 'X' after 7 ns;",
+    );
+}
+
+/// The third input is the output itself.
+#[test]
+fn kinds_with_three_inputs() {
+    let kinds = [
+        (AND_3, "n0 & n1 & n2", "n0 and n1 and n2"),
+        (OR_3, "n0 | n1 | n2", "n0 or n1 or n2"),
+        (XOR_3, "n0 ^ n1 ^ n2", "n0 xor n1 xor n2"),
+        (NAND_3, "~(n0 & n1 & n2)", "not (n0 and n1 and n2)"),
+        (NOR_3, "~(n0 | n1 | n2)", "not (n0 or n1 or n2)"),
+    ];
+    for (kind, in_verilog, in_vhdl) in kinds {
+        says(
+            gate(kind, [0, 1, 2], 2, 3),
+            &format!("always @(go or n0 or n1 or n2) if (go) n2 <= #3 {in_verilog};"),
+            &format!("n2 <= transport {in_vhdl} after 3 ns;"),
+        );
+    }
+    says(
+        gate(MULTIPLEXER, [0, 1, 2], 2, 7),
+        "always @(go or n0 or n1 or n2) if (go) n2 <= #7 ~(~(n2 ? n1 : n0));",
+        "n2 <= transport not (not n1) after 7 ns when n2 = '1' else not (not n0) after 7 ns when \
+         n2 = '0' or n0 = n1 else 'X' after 7 ns;",
     );
 }
 

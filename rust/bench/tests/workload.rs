@@ -1,8 +1,10 @@
 //! The workloads run, and as much happens in them as they say.
 
+use bench::same;
 use bench::timed::{self, Timed};
-use bench::{same, workload};
-use plain::Sheet;
+use bench::workload::{self, Workload};
+use generate::sheets::MEMORY;
+use plain::{Edition, Sheet};
 
 const HORIZON: u32 = 2_000;
 
@@ -23,14 +25,19 @@ fn sheet(name: &str) -> Sheet {
 #[test]
 fn all_run_and_list_changes() {
     let all = workload::all();
-    assert_eq!(all.len(), 5);
+    assert_eq!(all.len(), 6);
     for workload in all {
+        let Workload {
+            name,
+            edition,
+            sheet,
+        } = workload;
         let horizon = 40_000;
-        let Timed { records, .. } = timed::run(same::run, 1, &workload.sheet, horizon);
-        let plain = timed::run(timed::plain, 1, &workload.sheet, horizon);
-        assert_eq!(records, plain.records, "{}", workload.name);
+        let Timed { records, .. } = timed::run(same::run, 1, edition, &sheet, horizon);
+        let plain = timed::run(timed::plain, 1, edition, &sheet, horizon);
+        assert_eq!(records, plain.records, "{name}");
         let changes = records.iter().filter(|&&(tick, ..)| tick > 0);
-        assert!(changes.count() > 0, "{}", workload.name);
+        assert!(changes.count() > 0, "{name}");
     }
 }
 
@@ -42,9 +49,24 @@ fn all_of_one_ring_toggle_and_one_change_travels_in_the_other() {
 
 #[test]
 fn the_gates_stay_lively() {
-    let gates = sheet("255 random gates");
-    assert_eq!(gates.modules.len(), 255);
-    assert!(changes_per_tick(&gates) > 10);
+    for name in ["255 random gates", "255 gates of three inputs"] {
+        let gates = sheet(name);
+        assert_eq!(gates.modules.len(), 255);
+        assert!(changes_per_tick(&gates) > 10, "{name}");
+    }
+}
+
+/// No tick is refused, and the watched nodes still change at the end.
+#[test]
+fn the_gates_of_three_inputs_last() {
+    let gates = sheet("255 gates of three inputs");
+    assert!(gates.modules.iter().all(|module| module.kind > MEMORY));
+    let horizon = 200_000;
+    let Timed { records, .. } = timed::run(same::run, 1, Edition::Second, &gates, horizon);
+    let last = records
+        .iter()
+        .filter(|&&(tick, ..)| tick >= horizon - 1_000);
+    assert!(last.count() > 100);
 }
 
 #[test]

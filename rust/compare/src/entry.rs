@@ -1,12 +1,37 @@
 //! The C entry points. A slice passes as a pointer and a length.
 
+use plain::Edition;
+
+/// A check's entry point.
+type Check = unsafe extern "C" fn(sheet: *const u8, sheet_len: usize, answer: *mut [u32; 3]);
+
+/// A run's entry point.
+type Run = unsafe extern "C" fn(
+    sheet: *const u8,
+    sheet_len: usize,
+    horizon: u32,
+    listing: *mut u8,
+    listing_len: usize,
+    answer: *mut [u32; 3],
+);
+
 mod c {
     extern "C" {
         pub fn timing_check(sheet: *const u8, sheet_len: usize, answer: *mut [u32; 3]);
+        pub fn timing_check_2(sheet: *const u8, sheet_len: usize, answer: *mut [u32; 3]);
 
         pub fn timing_check_strict(sheet: *const u8, sheet_len: usize, answer: *mut [u32; 3]);
+        pub fn timing_check_strict_2(sheet: *const u8, sheet_len: usize, answer: *mut [u32; 3]);
 
         pub fn timing_run(
+            sheet: *const u8,
+            sheet_len: usize,
+            horizon: u32,
+            listing: *mut u8,
+            listing_len: usize,
+            answer: *mut [u32; 3],
+        );
+        pub fn timing_run_2(
             sheet: *const u8,
             sheet_len: usize,
             horizon: u32,
@@ -30,29 +55,41 @@ mod c {
 const UNWRITTEN: u32 = 0xDEAD_BEEF;
 
 /// Checks the sheet. The answer is number (0 for a finished call), place and count.
-pub fn check(sheet: &[u8]) -> [u32; 3] {
-    let mut answer = [UNWRITTEN; 3];
-    // SAFETY: the entry point reads the sheet's bytes and writes the three words, and both are
-    // lent for the whole call. An empty slice's pointer is not null.
-    unsafe { c::timing_check(sheet.as_ptr(), sheet.len(), &mut answer) };
-    answer
+pub fn check(edition: Edition, sheet: &[u8]) -> [u32; 3] {
+    let call = by_edition::<Check>(edition, c::timing_check, c::timing_check_2);
+    checked(sheet, call)
 }
 
 /// Checks the sheet and that every input has an event at tick 0.
-pub fn check_strict(sheet: &[u8]) -> [u32; 3] {
+pub fn check_strict(edition: Edition, sheet: &[u8]) -> [u32; 3] {
+    let call = by_edition::<Check>(edition, c::timing_check_strict, c::timing_check_strict_2);
+    checked(sheet, call)
+}
+
+/// The entry point of an edition.
+fn by_edition<T>(edition: Edition, first: T, second: T) -> T {
+    match edition {
+        Edition::First => first,
+        Edition::Second => second,
+    }
+}
+
+fn checked(sheet: &[u8], call: Check) -> [u32; 3] {
     let mut answer = [UNWRITTEN; 3];
-    // SAFETY: as above.
-    unsafe { c::timing_check_strict(sheet.as_ptr(), sheet.len(), &mut answer) };
+    // SAFETY: a check reads the sheet's bytes and writes the three words, and both are lent for the
+    // whole call. An empty slice's pointer is not null.
+    unsafe { call(sheet.as_ptr(), sheet.len(), &mut answer) };
     answer
 }
 
 /// Runs the sheet to the horizon and writes its records to the front of `listing`. The answer is
 /// number (0 for a finished run), place and count.
-pub fn run(sheet: &[u8], horizon: u32, listing: &mut [u8]) -> [u32; 3] {
+pub fn run(edition: Edition, sheet: &[u8], horizon: u32, listing: &mut [u8]) -> [u32; 3] {
+    let call = by_edition::<Run>(edition, c::timing_run, c::timing_run_2);
     let mut answer = [UNWRITTEN; 3];
     // SAFETY: as above; the listing's bytes are written, too, and lent for the whole call.
     unsafe {
-        c::timing_run(
+        call(
             sheet.as_ptr(),
             sheet.len(),
             horizon,

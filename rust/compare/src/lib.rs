@@ -9,5 +9,5 @@ mod stream;
 pub use entry::{check, check_strict, describe, run};
 pub use hex::hex;
 pub use lent::Lent;
-pub use place::{program, repository};
+pub use place::{program, repository, table_generator};
 pub use stream::{count, seed};

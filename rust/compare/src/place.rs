@@ -9,5 +9,14 @@ pub fn repository() -> PathBuf {
 
 /// The program, which must have been built.
 pub fn program() -> PathBuf {
-    repository().join("target/bin/simulate")
+    built("simulate")
+}
+
+/// The program that prints the gates' tables, which must have been built.
+pub fn table_generator() -> PathBuf {
+    built("gate_tables")
+}
+
+fn built(name: &str) -> PathBuf {
+    repository().join("target/bin").join(name)
 }

@@ -6,8 +6,8 @@ use std::process::{Command, Stdio};
 use compare::{hex, program, seed};
 use generate::limits::{LAST_HORIZON, MOST_PRINTED};
 use generate::sheets::*;
-use generate::Generator;
-use plain::{sentence, worked_run, Answer, HIGH, INPUT, LOW};
+use generate::{by_hand, Generator};
+use plain::{sentence, worked_run, Answer, Edition, HIGH, INPUT, LOW};
 
 /// Starts a program with a stack of 1,024 KiB: it must need less.
 const WITH_SMALL_STACK: &str = r#"ulimit -s 1024 && exec "$0""#;
@@ -97,10 +97,18 @@ fn bytes_past_the_longest_sheet() {
     }
 }
 
+/// It keeps to the first edition: the second record of 8 bytes is taken to begin a byte early.
+#[test]
+fn a_sheet_of_the_second_edition() {
+    let sheet = by_hand::start_2().encode(Edition::Second);
+    assert_eq!(printed(&input(12, &sheet)), refused([6, 15, 0]));
+}
+
 /// An inverter onto its own input has a record at each tick.
 #[test]
 fn the_lent_room() {
-    let ring = sheet(&[LOW], &[gate(INVERTER, [0, 0], 0, 1)], &[], &[0]).encode();
+    let ring = sheet(&[LOW], &[gate(INVERTER, [0, 0], 0, 1)], &[], &[0]);
+    let ring = ring.encode(Edition::First);
     for (horizon, word) in [(MOST_PRINTED, "finished"), (MOST_PRINTED + 1, "refused")] {
         assert_eq!(agreed(&input(horizon, &ring), "the lent room"), word);
     }
@@ -113,7 +121,8 @@ fn late_oscillator(high_from: u32) -> Vec<u8> {
     nodes.push(HIGH);
     let mut drive: Vec<Change> = (0..100).map(|node| (0, node, LOW)).collect();
     drive.push((high_from, 0, HIGH));
-    sheet(&nodes, &[gate(NAND, [0, 100], 100, 1)], &drive, &[100]).encode()
+    let sheet = sheet(&nodes, &[gate(NAND, [0, 100], 100, 1)], &drive, &[100]);
+    sheet.encode(Edition::First)
 }
 
 /// All 6,000 records that the lent room takes, up to the last horizon: the node has three digits, every

@@ -9,7 +9,7 @@ use std::process::{Command, Stdio};
 use compare::program;
 use generate::limits::MOST_PRINTED;
 use generate::sheets::*;
-use plain::{sentence, worked_run, Answer, LOW};
+use plain::{sentence, worked_run, Answer, Edition, LOW};
 
 const NOT_TAKEN: &str = "simulate: standard output did not take the whole text\n";
 const NOTHING_READ: &str = "simulate: nothing was read from standard input\n";
@@ -54,7 +54,8 @@ const PIPE: usize = 65_536;
 
 /// An inverter onto its own input, to as many ticks as are printed: a text that no pipe takes at once.
 fn long_run() -> Vec<u8> {
-    let ring = sheet(&[LOW], &[gate(INVERTER, [0, 0], 0, 1)], &[], &[0]).encode();
+    let ring = sheet(&[LOW], &[gate(INVERTER, [0, 0], 0, 1)], &[], &[0]);
+    let ring = ring.encode(Edition::First);
     [&MOST_PRINTED.to_le_bytes()[..], &ring].concat()
 }
 

@@ -1,13 +1,19 @@
 //! Sheets with answers worked out by hand: every count and field at its limit and past it, and
 //! the order of the refusals.
 
-use plain::{Module, Sheet, INPUT};
+mod second_edition;
+
+pub use second_edition::start_2;
+
+use plain::{Edition, Module, Sheet, INPUT};
 
 use crate::sheets::{event, gate};
 
-/// A sheet and the number, place and count that checking it answers, and that a strict check does.
+/// A sheet of an edition, the number, place and count that checking it answers, and those of a strict
+/// check.
 pub struct Case {
     pub name: &'static str,
+    pub edition: Edition,
     pub sheet: Vec<u8>,
     pub answer: [u32; 3],
     pub strict: [u32; 3],
@@ -45,6 +51,7 @@ pub fn cases() -> Vec<Case> {
         watched(),
         loops(),
         ends(),
+        second_edition::cases(),
     ]
     .into_iter()
     .flatten()
@@ -59,12 +66,13 @@ fn changed(name: &'static str, answer: [u32; 3], change: fn(&mut Sheet)) -> Case
 }
 
 fn whole(name: &'static str, answer: [u32; 3], sheet: Sheet) -> Case {
-    bytes(name, answer, sheet.encode())
+    bytes(name, answer, sheet.encode(Edition::First))
 }
 
 fn bytes(name: &'static str, answer: [u32; 3], sheet: Vec<u8>) -> Case {
     Case {
         name,
+        edition: Edition::First,
         sheet,
         answer,
         strict: answer,

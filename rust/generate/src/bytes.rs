@@ -8,7 +8,8 @@ impl Generator {
     /// A sheet with one of its four counts changed, and its records left as they are.
     pub fn with_wrong_count(&mut self) -> Vec<u8> {
         let sheet = self.base();
-        let (place, records, limit) = self.random.pick(&counts(&sheet));
+        let counts = counts(&sheet, self.edition.module_bytes());
+        let (place, records, limit) = self.random.pick(&counts);
         let near = [
             0,
             1,
@@ -22,21 +23,21 @@ impl Generator {
             usize::from(u16::MAX),
         ];
         let count = self.random.pick(&near) as u16;
-        let mut bytes = sheet.encode();
+        let mut bytes = sheet.encode(self.edition);
         bytes[place..place + 2].copy_from_slice(&count.to_le_bytes());
         bytes
     }
 
     /// A sheet that ends too early.
     pub fn truncated(&mut self) -> Vec<u8> {
-        let mut bytes = self.base_or_faulty().encode();
+        let mut bytes = self.base_or_faulty().encode(self.edition);
         bytes.truncate(self.random.place(bytes.len()));
         bytes
     }
 
     /// A sheet with bytes left over.
     pub fn left_over(&mut self) -> Vec<u8> {
-        let mut bytes = self.base_or_faulty().encode();
+        let mut bytes = self.base_or_faulty().encode(self.edition);
         for _ in 0..self.random.between(1, 9) {
             let low = self.random.pick(&[0, 0, 1, 4]);
             let any = self.random.byte();
@@ -47,7 +48,7 @@ impl Generator {
 
     /// A sheet with one to three of its bytes changed.
     pub fn mutated(&mut self) -> Vec<u8> {
-        let mut bytes = self.base().encode();
+        let mut bytes = self.base().encode(self.edition);
         for _ in 0..self.random.pick(&[1, 1, 1, 2, 3]) {
             let place = self.random.place(bytes.len());
             let now = bytes[place];
@@ -80,16 +81,18 @@ impl Generator {
     }
 }
 
-/// For each of the four counts: its place, the records there are, and its limit.
-fn counts(sheet: &Sheet) -> [(usize, usize, usize); 4] {
+/// For each of the four counts: its place, the records there are, and its limit. A module has so many
+/// bytes.
+fn counts(sheet: &Sheet, module_bytes: usize) -> [(usize, usize, usize); 4] {
     let nodes = sheet.nodes.len();
     let modules = sheet.modules.len();
     let drive = sheet.drive.len();
     let watched = sheet.watched.len();
+    let drive_place = 4 + nodes + module_bytes * modules;
     [
         (0, nodes, 256),
         (2 + nodes, modules, 256),
-        (4 + nodes + 7 * modules, drive, 1_024),
-        (6 + nodes + 7 * modules + 6 * drive, watched, 256),
+        (drive_place, drive, 1_024),
+        (drive_place + 2 + 6 * drive, watched, 256),
     ]
 }

@@ -1,12 +1,12 @@
 //! Runs with about 4,096 changes pending where they are busiest.
 
-use plain::{renumbered, rule, Sheet, HIGH, INPUT, LOW, UNKNOWN};
+use plain::{renumbered, rule, Module, Sheet, HIGH, INPUT, LOW, UNKNOWN};
 
 use crate::limits::{MOST_NODES, MOST_PENDING};
 use crate::sheets::*;
 use crate::{byte, starts_of, Generator, RunInput, Start};
 
-/// The kinds that pass every change on when all their inputs are one node. A memory does so with
+/// The kinds that pass every change on when all their inputs are one node, rising. A memory does so with
 /// the whole set.
 const PASSING: &[u8] = &[
     BUFFER,
@@ -17,6 +17,12 @@ const PASSING: &[u8] = &[
     NOR,
     CLOCKED_INVERTER,
     MEMORY,
+    AND_3,
+    OR_3,
+    XOR_3,
+    NAND_3,
+    NOR_3,
+    MULTIPLEXER,
 ];
 
 /// The set of all values.
@@ -105,7 +111,7 @@ impl Generator {
 
     /// Adds a module that passes on what the node does. A settled one begins as the node does.
     fn add_passing(&mut self, sheet: &mut Sheet, node: u8, delay: usize, settled: bool) {
-        let kind = self.random.pick(PASSING);
+        let kind = self.kind_among(PASSING);
         let initial = if settled {
             passed_on(kind, begins_with(sheet, node))
         } else {
@@ -143,7 +149,7 @@ impl Generator {
             self.random.between(enough / 2, enough)
         };
         RunInput {
-            sheet: renumbered(&sheet, &to, &order).encode(),
+            sheet: renumbered(&sheet, &to, &order).encode(self.edition),
             horizon: horizon as u32,
         }
     }
@@ -157,12 +163,15 @@ fn longest(delays: &[usize]) -> usize {
 fn add_module(sheet: &mut Sheet, kind: u8, node: u8, delay: usize, initial: u8) {
     let output = byte(sheet.nodes.len());
     let delay = u16::try_from(delay).expect("the delay has two bytes");
-    let module = match kind {
-        CONSTANT => constant(LOW, output, delay),
-        BUFFER | INVERTER => gate(kind, [node, 0], output, delay),
-        MEMORY => memory(ANY_VALUE, [node, node], output, delay),
-        _ => gate(kind, [node, node], output, delay),
+    let parameter = match kind {
+        MEMORY => ANY_VALUE,
+        _ => 0,
     };
+    let mut module = Module {
+        parameter,
+        ..gate(kind, [], output, delay)
+    };
+    module.used_inputs_mut().for_each(|input| *input = node);
     sheet.nodes.push(initial);
     sheet.modules.push(module);
 }
@@ -170,10 +179,10 @@ fn add_module(sheet: &mut Sheet, kind: u8, node: u8, delay: usize, initial: u8) 
 /// What a passing kind makes of a value.
 fn passed_on(kind: u8, value: u8) -> u8 {
     if kind == MEMORY {
-        value
-    } else {
-        rule(kind, 0, value, value)
+        return value;
     }
+    let used = gate(kind, [], 0, 0).input_count();
+    rule(kind, 0, &[value; 3][..used])
 }
 
 /// What a node has at tick 0. An input is X there if it has no event.

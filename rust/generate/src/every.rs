@@ -1,8 +1,9 @@
 //! Families that are small enough to be taken whole.
 
-use plain::{Sheet, INPUT, UNKNOWN};
+use plain::{Edition, Sheet, INPUT, UNKNOWN};
 
-use crate::sheets::{gate, sheet, Change, BUFFER, CLOCKED_INVERTER, INVERTER};
+use crate::byte;
+use crate::sheets::*;
 
 /// Every way to end the bytes too early: none of them, the first one, and so on.
 pub fn truncations(bytes: &[u8]) -> impl Iterator<Item = &[u8]> {
@@ -21,22 +22,58 @@ pub fn single_bytes(bytes: &[u8]) -> impl Iterator<Item = Vec<u8>> + '_ {
     })
 }
 
-/// How many pairs of values there are, and so at how many ticks [`gates`] sees a new one.
-pub const PAIRS: u32 = 16;
+/// The kinds of an edition that have a rule over their inputs, in order.
+pub fn gate_kinds(edition: Edition) -> Vec<u8> {
+    let kinds = BUFFER..=edition.greatest_kind();
+    kinds.filter(|&kind| kind != MEMORY).collect()
+}
 
-/// A gate of each kind over the same two inputs, which go through every pair of values, one a tick:
-/// at tick t the first is t / 4 and the second t % 4. Kind k drives node k + 1. All are watched.
-pub fn gates(delay: u16) -> Sheet {
-    let kinds = BUFFER..=CLOCKED_INVERTER;
+/// How many inputs the widest kinds of an edition have.
+fn most_inputs(edition: Edition) -> u8 {
+    match edition {
+        Edition::First => 2,
+        Edition::Second => 3,
+    }
+}
+
+/// How many pairs or triples of values there are, and so at how many ticks [`gates`] sees a new one.
+pub fn combinations(edition: Edition) -> u32 {
+    4_u32.pow(most_inputs(edition).into())
+}
+
+/// The values of the inputs at a tick. The first counts most: of a pair it is t / 4 at tick t, and the
+/// second is t % 4.
+pub fn values(edition: Edition, tick: u32) -> Vec<u8> {
+    let places = (0..most_inputs(edition)).rev();
+    places
+        .map(|place| (tick >> (2 * place) & 3) as u8)
+        .collect()
+}
+
+/// The node that a kind drives in [`gates`].
+pub fn output_of(edition: Edition, kind: u8) -> u8 {
+    let before = gate_kinds(edition).into_iter().filter(|&k| k < kind);
+    most_inputs(edition) + byte(before.count())
+}
+
+/// A gate of each kind over the same inputs, which go through every pair of values, in the second
+/// edition through every triple, one a tick. All are watched.
+pub fn gates(edition: Edition, delay: u16) -> Sheet {
     let module = |kind: u8| {
-        let second = u8::from(kind > INVERTER);
-        gate(kind, [0, second], kind + 1, delay)
+        let mut module = gate(kind, [], output_of(edition, kind), delay);
+        for (input, node) in module.used_inputs_mut().zip(0..) {
+            *input = node;
+        }
+        module
     };
-    let modules: Vec<_> = kinds.map(module).collect();
-    let events = |tick: u32| [(tick, 0, (tick / 4) as u8), (tick, 1, (tick % 4) as u8)];
-    let drive: Vec<Change> = (0..PAIRS).flat_map(events).collect();
-    let mut nodes = vec![INPUT; 2];
-    nodes.resize(2 + modules.len(), UNKNOWN);
-    let watched: Vec<u8> = (0..=CLOCKED_INVERTER + 1).collect();
+    let modules: Vec<_> = gate_kinds(edition).into_iter().map(module).collect();
+    let events = |tick: u32| {
+        let values = (0..).zip(values(edition, tick));
+        values.map(move |(node, value)| (tick, node, value))
+    };
+    let drive: Vec<Change> = (0..combinations(edition)).flat_map(events).collect();
+    let mut nodes = vec![INPUT; most_inputs(edition).into()];
+    nodes.resize(nodes.len() + modules.len(), UNKNOWN);
+    let watched: Vec<u8> = (0..nodes.len()).map(byte).collect();
     sheet(&nodes, &modules, &drive, &watched)
 }

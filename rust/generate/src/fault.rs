@@ -1,6 +1,6 @@
 //! Sheets with faults in their records.
 
-use plain::{Event, Module, Sheet};
+use plain::{Edition, Event, Module, Sheet};
 
 use crate::{byte, Generator, Size};
 
@@ -77,16 +77,26 @@ impl Generator {
         let other = self.random.pick(&sheet.modules).output;
         let place = self.random.place(sheet.modules.len());
         let module = &mut sheet.modules[place];
-        match self.random.between(0, 7) {
-            0 => module.kind = self.byte_near(9),
+        match self.random.between(0, self.by_edition(7, 8)) {
+            0 => module.kind = self.kind_near_a_limit(),
             1 => module.parameter = self.wrong_parameter(module.kind),
             2 => module.output = self.byte_near(nodes - 1),
             3 => module.output = other,
             4 => module.first = self.byte_near(nodes - 1),
             5 => module.second = self.byte_near(nodes - 1),
             6 => module.delay = self.wrong_delay(),
-            _ => module.delay = 0,
+            7 => module.delay = 0,
+            _ => module.third = self.byte_near(nodes - 1),
         }
+    }
+
+    /// The last kind of an edition, this one's or the first, or one near it.
+    fn kind_near_a_limit(&mut self) -> u8 {
+        let limit = match self.edition {
+            Edition::First => 9,
+            Edition::Second => self.random.pick(&[9, 15]),
+        };
+        self.byte_near(limit)
     }
 
     fn wrong_parameter(&mut self, kind: u8) -> u8 {
@@ -173,11 +183,12 @@ impl Generator {
             output,
             first,
             second,
+            third,
             delay,
         } = &mut sheet.modules[place];
         let spoilt = [(); 6].map(|()| self.random.chance(35));
         if spoilt[0] {
-            *kind = self.byte_near(9);
+            *kind = self.kind_near_a_limit();
         }
         if spoilt[1] {
             *parameter = self.wrong_parameter(*kind);
@@ -194,6 +205,9 @@ impl Generator {
         }
         if spoilt[5] {
             *delay = self.wrong_delay();
+        }
+        if self.edition == Edition::Second && self.random.chance(35) {
+            *third = self.byte_near(nodes - 1);
         }
     }
 

@@ -1,11 +1,9 @@
-//! Networks of delayed two-input gates.
+//! Networks of delayed gates with as many inputs as the edition has.
 
 use plain::{Module, Sheet, HIGH, INPUT, LOW};
 
-use crate::sheets::*;
+use crate::sheets::{event, gate};
 use crate::{byte, Generator, Start};
-
-const KINDS: &[u8] = &[AND, OR, XOR, NAND, NOR];
 
 impl Generator {
     /// So many gates, each with a delay from 1 on and with any nodes as its inputs, and an input
@@ -16,7 +14,7 @@ impl Generator {
         let initial = (0..gates).map(|_| self.random.pick(&[LOW, HIGH]));
         let mut bytes: Vec<u8> = initial.collect();
         bytes.push(INPUT);
-        let modules = (0..input).map(|node| self.two_input_gate(node, nodes, longest_delay));
+        let modules = (0..input).map(|node| self.widest_gate(node, nodes, longest_delay));
         let modules = modules.collect();
         let first = self.first_tick(start);
         Sheet {
@@ -30,12 +28,15 @@ impl Generator {
         }
     }
 
-    /// A gate of any kind that has two inputs, over any of the nodes.
-    fn two_input_gate(&mut self, output: u8, nodes: usize, longest_delay: usize) -> Module {
-        let kind = self.random.pick(KINDS);
-        let inputs = [(); 2].map(|()| byte(self.random.place(nodes)));
+    /// A gate of two inputs, in the second edition of three, over any of the nodes.
+    fn widest_gate(&mut self, output: u8, nodes: usize, longest_delay: usize) -> Module {
+        let kind = self.widest_kind();
+        let mut module = gate(kind, [], output, 0);
+        for input in module.used_inputs_mut() {
+            *input = byte(self.random.place(nodes));
+        }
         let delay = self.random.between(1, longest_delay);
-        let delay = u16::try_from(delay).expect("the delay has two bytes");
-        gate(kind, inputs, output, delay)
+        module.delay = u16::try_from(delay).expect("the delay has two bytes");
+        module
     }
 }

@@ -15,6 +15,7 @@ pub mod ends_by_hand;
 pub mod every;
 mod fault;
 mod gates;
+mod kinds;
 pub mod limits;
 mod met;
 mod mixture;
@@ -23,6 +24,7 @@ mod reorder;
 mod room;
 mod run;
 mod run_mixture;
+pub mod runs_by_hand;
 pub mod shared;
 pub mod sheets;
 mod start;
@@ -36,16 +38,25 @@ pub use start::{starts_of, Start};
 pub use valid::Size;
 pub use zero_delay::ZeroDelay;
 
+use plain::Edition;
 use random::Random;
 
-/// The state of a stream of sheets.
+/// The state of a stream of sheets, all of one edition.
 pub struct Generator {
+    edition: Edition,
     random: Random,
 }
 
 impl Generator {
+    /// Sheets of the first edition.
     pub fn new(seed: u64) -> Generator {
+        Generator::of(Edition::First, seed)
+    }
+
+    /// Sheets of either edition.
+    pub fn of(edition: Edition, seed: u64) -> Generator {
         Generator {
+            edition,
             random: Random::new(seed),
         }
     }

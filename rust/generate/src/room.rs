@@ -1,5 +1,7 @@
 //! Lengths of the buffers that runs are lent, seen from the records of the whole listing.
 
+use plain::Edition;
+
 use crate::limits::{LAST_HORIZON, RECORD_BYTES};
 use crate::Generator;
 
@@ -54,8 +56,8 @@ impl Generator {
 
 /// The bytes that every listing of the sheet fits into: a record for each watched node at each
 /// tick. Nothing, where the run is refused before its first tick.
-pub fn room_for_all(sheet: &[u8], horizon: u32) -> usize {
-    let watched = plain::read(sheet).map_or(0, |sheet| sheet.watched.len());
+pub fn room_for_all(edition: Edition, sheet: &[u8], horizon: u32) -> usize {
+    let watched = plain::read(edition, sheet).map_or(0, |sheet| sheet.watched.len());
     let ticks = if horizon > LAST_HORIZON { 0 } else { horizon };
     RECORD_BYTES * watched * ticks as usize
 }

@@ -32,28 +32,28 @@ impl Generator {
 
     fn run_of_size(&mut self, size: Size) -> RunInput {
         RunInput {
-            sheet: self.valid(size).encode(),
+            sheet: self.valid(size).encode(self.edition),
             horizon: self.horizon(),
         }
     }
 
     fn lively_run(&mut self) -> RunInput {
         RunInput {
-            sheet: self.lively(Size::Small).encode(),
+            sheet: self.lively(Size::Small).encode(self.edition),
             horizon: self.random.between(1, 120) as u32,
         }
     }
 
     fn short_run_of_size(&mut self, size: Size) -> RunInput {
         RunInput {
-            sheet: self.valid(size).encode(),
+            sheet: self.valid(size).encode(self.edition),
             horizon: self.horizon().min(100),
         }
     }
 
     fn zero_delay_run(&mut self) -> RunInput {
         RunInput {
-            sheet: self.zero_delay().sheet.encode(),
+            sheet: self.zero_delay().sheet.encode(self.edition),
             horizon: self.random.between(1, 20) as u32,
         }
     }
@@ -73,7 +73,7 @@ impl Generator {
             sheet = self.valid(Size::Tiny);
         }
         RunInput {
-            sheet: sheet.encode(),
+            sheet: sheet.encode(self.edition),
             horizon: self
                 .random
                 .pick(&[LAST_HORIZON - 1, LAST_HORIZON, LAST_HORIZON + 1]),

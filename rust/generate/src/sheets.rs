@@ -14,6 +14,12 @@ pub const NAND: u8 = 6;
 pub const NOR: u8 = 7;
 pub const CLOCKED_INVERTER: u8 = 8;
 pub const MEMORY: u8 = 9;
+pub const AND_3: u8 = 10;
+pub const OR_3: u8 = 11;
+pub const XOR_3: u8 = 12;
+pub const NAND_3: u8 = 13;
+pub const NOR_3: u8 = 14;
+pub const MULTIPLEXER: u8 = 15;
 
 /// Tick, node and value: an event of a drive, or a change.
 pub type Change = (u32, u8, u8);
@@ -21,14 +27,17 @@ pub type Change = (u32, u8, u8);
 /// Tick, node, value and end: a record of a listing.
 pub type Record = (u32, u8, u8, u32);
 
-/// A gate from its inputs to its output. An input that the kind lacks is 0.
-pub fn gate(kind: u8, [first, second]: [u8; 2], output: u8, delay: u16) -> Module {
+/// A gate from its inputs to its output. An input that the kind lacks is 0, and so is one that is not
+/// given.
+pub fn gate<const N: usize>(kind: u8, inputs: [u8; N], output: u8, delay: u16) -> Module {
+    let input = |place: usize| inputs.get(place).copied().unwrap_or(0);
     Module {
         kind,
         parameter: 0,
         output,
-        first,
-        second,
+        first: input(0),
+        second: input(1),
+        third: input(2),
         delay,
     }
 }

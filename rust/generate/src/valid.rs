@@ -4,6 +4,7 @@ use std::collections::BTreeMap;
 
 use plain::{Event, Module, Sheet, INPUT};
 
+use crate::sheets::gate;
 use crate::{byte, Generator, Start};
 
 /// How large a sheet is made.
@@ -40,9 +41,6 @@ const DEFINED: &[u8] = &[0, 1];
 
 /// All values, low and high more often.
 const MIXED: &[u8] = &[0, 0, 0, 1, 1, 1, 2, 3];
-
-/// Kinds 0 to 9, those that pass changes on more often.
-const KINDS: &[u8] = &[0, 1, 2, 2, 3, 4, 5, 5, 6, 6, 7, 7, 8, 9, 9];
 
 impl Generator {
     /// A sheet that is accepted.
@@ -152,36 +150,20 @@ impl Generator {
 
     /// The module that drives the node at `place` in the order.
     fn module(&mut self, order: &[u8], delays: &[u16], place: usize) -> Module {
-        let kind = self.random.pick(KINDS);
+        let kind = self.often_passing_kind();
         let mut module = Module {
-            kind,
             parameter: self.parameter(kind),
-            output: order[place],
-            first: 0,
-            second: 0,
-            delay: delays[place],
+            ..gate(kind, [], order[place], delays[place])
         };
-        let used = module.input_count();
-        for input in [&mut module.first, &mut module.second]
-            .into_iter()
-            .take(used)
-        {
+        let mut delay = module.delay;
+        for input in module.used_inputs_mut() {
             match self.input(order, delays, place) {
                 Some(node) => *input = node,
                 // Nothing stands before it: a delay makes any input good.
-                None => module.delay = 1,
+                None => delay = 1,
             }
         }
-        module
-    }
-
-    /// A parameter that the kind allows.
-    pub(crate) fn parameter(&mut self, kind: u8) -> u8 {
-        match kind {
-            0 => self.level(),
-            9 => byte(self.random.between(0, 15)),
-            _ => 0,
-        }
+        Module { delay, ..module }
     }
 
     /// An input for the module at `place`, if one is found that closes no zero-delay loop.

@@ -1,7 +1,8 @@
 //! Zero-delay networks whose loops are known from how they were made.
 
-use plain::{renumbered, Event, Module, Sheet, INPUT};
+use plain::{renumbered, Edition, Event, Module, Sheet, INPUT};
 
+use crate::sheets::{gate, BUFFER, INVERTER, MEMORY};
 use crate::{byte, Generator};
 
 /// A sheet that is good but for its zero-delay loops, if it has any.
@@ -49,13 +50,19 @@ impl Generator {
         let mut network = self.sources();
         for _ in 0..self.random.between(1, 5) {
             let before = byte(network.nodes.len() - 1);
-            let kind = self.random.pick(&[0, 1, 2]);
+            let kind = self.kind_with_unused_inputs();
             self.add_gate(&mut network, kind, before);
         }
         let last = network.nodes.len() - 1;
         let mut to: Vec<u8> = (0..network.nodes.len()).map(byte).collect();
         to.swap(0, last);
         self.renumber(network, &to)
+    }
+
+    /// A kind that lacks an input of the edition's record.
+    fn kind_with_unused_inputs(&mut self) -> u8 {
+        let greatest = self.by_edition(INVERTER, MEMORY);
+        byte(self.random.between(0, greatest.into()))
     }
 
     /// Zero-delay modules that read any nodes at all.
@@ -67,7 +74,7 @@ impl Generator {
             network.add_node(INPUT);
         }
         for _ in inputs..nodes {
-            let kind = byte(self.random.between(0, 9));
+            let kind = self.kind_from(0);
             self.add_gate(&mut network, kind, 0);
         }
         for module in &mut network.modules {
@@ -85,7 +92,7 @@ impl Generator {
             network.add_node(INPUT);
         }
         for _ in 0..self.random.between(0, 2) {
-            let kind = byte(self.random.between(0, 9));
+            let kind = self.kind_from(0);
             self.add_gate(&mut network, kind, 0);
         }
         for module in &mut network.modules {
@@ -97,44 +104,57 @@ impl Generator {
     /// A few zero-delay modules that read what stands before them.
     fn add_gates(&mut self, network: &mut Network, most: usize) {
         for _ in 0..self.random.between(0, most) {
-            let kind = byte(self.random.between(0, 9));
+            let kind = self.kind_from(0);
             let before = byte(self.random.place(network.nodes.len()));
             self.add_gate(network, kind, before);
         }
     }
 
-    /// A zero-delay module that reads `before` at one used input, and some node before itself at
-    /// the other.
+    /// A zero-delay module that reads `before` at one used input, and some nodes before itself at
+    /// the others.
     fn add_gate(&mut self, network: &mut Network, kind: u8, before: u8) -> u8 {
-        let other = byte(self.random.place(network.nodes.len()));
+        let others = self.others(network.nodes.len());
+        let parameter = self.parameter(kind);
+        let output = network.add_node(self.level());
         let mut module = Module {
-            kind,
-            parameter: self.parameter(kind),
-            output: network.add_node(self.level()),
-            first: 0,
-            second: 0,
-            delay: 0,
+            parameter,
+            ..gate(kind, [], output, 0)
         };
-        self.read(&mut module, before, other);
+        self.read(&mut module, before, others);
         network.modules.push(module);
         module.output
     }
 
-    /// Sets the used inputs to two nodes, either way round.
-    fn read(&mut self, module: &mut Module, one: u8, other: u8) {
+    /// Two of so many nodes, to be read besides one. In the first edition no module reads the second.
+    fn others(&mut self, nodes: usize) -> [u8; 2] {
+        let other = byte(self.random.place(nodes));
+        let another = match self.edition {
+            Edition::First => other,
+            Edition::Second => byte(self.random.place(nodes)),
+        };
+        [other, another]
+    }
+
+    /// Sets the used inputs to these nodes, in any order. A module of one input reads `one`.
+    fn read(&mut self, module: &mut Module, one: u8, [other, another]: [u8; 2]) {
         let swapped = self.random.chance(50);
         match (module.input_count(), swapped) {
             (0, _) => {}
             (1, _) => module.first = one,
-            (_, false) => (module.first, module.second) = (one, other),
-            (_, true) => (module.first, module.second) = (other, one),
+            (2, false) => (module.first, module.second) = (one, other),
+            (2, true) => (module.first, module.second) = (other, one),
+            _ => {
+                let mut nodes = [one, other, another];
+                self.random.shuffle(&mut nodes);
+                [module.first, module.second, module.third] = nodes;
+            }
         }
     }
 
     fn read_any_of(&mut self, module: &mut Module, nodes: usize) {
         let one = byte(self.random.place(nodes));
-        let other = byte(self.random.place(nodes));
-        self.read(module, one, other);
+        let others = self.others(nodes);
+        self.read(module, one, others);
     }
 
     /// A closed chain of zero-delay modules, one of them perhaps on its own.
@@ -142,19 +162,19 @@ impl Generator {
         let start = network.nodes.len();
         for _ in 0..self.random.between(1, most) {
             let before = byte(network.nodes.len() - 1);
-            let kind = byte(self.random.between(1, 9));
+            let kind = self.kind_from(BUFFER);
             let output = self.add_gate(network, kind, before);
             network.on_loops.push(output);
         }
         // The first module reads the last one's output instead of what stood before the ring.
         let last = byte(network.nodes.len() - 1);
-        let other = byte(self.random.place(start));
+        let others = self.others(start);
         let module = network
             .modules
             .iter_mut()
             .find(|module| usize::from(module.output) == start)
             .expect("the ring has a first module");
-        self.read(module, last, other);
+        self.read(module, last, others);
     }
 
     /// Lets the delayed modules read any nodes, later ones and their own output too.

@@ -1,15 +1,14 @@
 //! Crowded runs come to the limit of pending changes and past it.
 
 use generate::Generator;
-use plain::read;
+use plain::{read, Edition};
 
-#[test]
-fn exactly_at_the_limit_and_one_past_it() {
-    let mut generator = Generator::new(30);
+fn at_the_limit_and_past_it(edition: Edition) {
+    let mut generator = Generator::of(edition, 30);
     let (mut at_limit, mut one_past, mut below, mut past) = (0, 0, 0, 0);
     for _ in 0..1_000 {
         let input = generator.crowded();
-        let sheet = read(&input.sheet).expect("crowded sheets are accepted");
+        let sheet = read(edition, &input.sheet).expect("crowded sheets are accepted");
         let cells = plain::cells(&sheet, input.horizon);
         let busiest = plain::pending(&sheet, &cells).into_iter().max();
         match busiest.expect("there is a tick") {
@@ -22,4 +21,9 @@ fn exactly_at_the_limit_and_one_past_it() {
     let counts = [at_limit, one_past, below, past];
     println!("at the limit, one past it, below, further past: {counts:?}");
     assert!(counts.iter().all(|&runs| runs >= 50), "{counts:?}");
+}
+
+#[test]
+fn exactly_at_the_limit_and_one_past_it() {
+    Edition::ALL.into_iter().for_each(at_the_limit_and_past_it);
 }

@@ -1,57 +1,65 @@
 //! Lively sheets look at every entry of every gate's table, those of values that are not known
 //! included.
 
-use generate::sheets::{BUFFER, CLOCKED_INVERTER};
+use generate::every::gate_kinds;
+use generate::sheets::{gate, MULTIPLEXER};
 use generate::{Generator, Size};
-use plain::{Module, Sheet, LOW};
+use plain::{Edition, Module, Sheet, UNKNOWN};
 
 const HORIZON: u32 = 60;
 
-/// By kind, first and second input's value.
-type Entries = [[[u32; 4]; 4]; CLOCKED_INVERTER as usize + 1];
-
-/// The kinds that are gates, by how many inputs they have.
-const OF_ONE: [usize; 2] = [1, 2];
-const OF_TWO: [usize; 6] = [3, 4, 5, 6, 7, 8];
+/// By kind and by the values of its used inputs, of which the first counts most.
+type Entries = [[u32; 64]; 16];
 
 /// Counts the entries that the gates of a sheet look at so early that their outputs show it.
-fn add(met: &mut Entries, sheet: &Sheet) {
+fn add(met: &mut Entries, kinds: &[u8], sheet: &Sheet) {
     let cells = plain::cells(sheet, HORIZON);
-    let is_gate = |module: &&Module| (BUFFER..=CLOCKED_INVERTER).contains(&module.kind);
+    let is_gate = |module: &&Module| kinds.contains(&module.kind);
     for gate in sheet.modules.iter().filter(is_gate) {
         let shown = HORIZON.saturating_sub(gate.delay.into()) as usize;
-        for tick in 0..shown {
-            let [first, second] = used_values(gate, &cells, tick);
-            met[usize::from(gate.kind)][first][second] += 1;
+        for entry in (0..shown).map(|tick| entry_at(gate, &cells, tick)) {
+            met[usize::from(gate.kind)][entry] += 1;
         }
     }
 }
 
-/// The values of the used inputs. In place of one that is not used stands 0.
-fn used_values(gate: &Module, cells: &[Vec<u8>], tick: usize) -> [usize; 2] {
-    let mut values = [LOW; 2];
-    for (value, node) in values.iter_mut().zip(gate.used_inputs()) {
-        *value = cells[usize::from(node)][tick];
+/// The entry that a gate looks at.
+fn entry_at(gate: &Module, cells: &[Vec<u8>], tick: usize) -> usize {
+    let values = gate
+        .used_inputs()
+        .map(|node| cells[usize::from(node)][tick]);
+    values.fold(0, |entry, value| 4 * entry + usize::from(value))
+}
+
+/// Every entry is met at least so often in so many sheets.
+fn every_entry(edition: Edition, sheets: usize, least: u32) -> Entries {
+    let mut generator = Generator::of(edition, 34);
+    let kinds = gate_kinds(edition);
+    let mut met = [[0; 64]; 16];
+    for _ in 0..sheets {
+        add(&mut met, &kinds, &generator.lively(Size::Small));
     }
-    values.map(usize::from)
+    for kind in kinds {
+        let used = gate(kind, [], 0, 0).input_count();
+        let entries = &met[usize::from(kind)][..4_usize.pow(used as u32)];
+        println!("{edition:?}, kind {kind}: {entries:?}");
+        assert!(entries.iter().all(|&entry| entry >= least), "kind {kind}");
+    }
+    met
 }
 
 #[test]
 fn every_entry_is_met() {
-    let mut generator = Generator::new(34);
-    let mut met = Entries::default();
-    for _ in 0..2_000 {
-        add(&mut met, &generator.lively(Size::Small));
-    }
-    println!("by kind, first and second input: {met:?}");
-    for kind in OF_ONE {
-        for first in met[kind] {
-            assert!(first[0] >= 100, "kind {kind}: {met:?}");
-        }
-    }
-    for kind in OF_TWO {
-        for entry in met[kind].as_flattened() {
-            assert!(*entry >= 100, "kind {kind}: {met:?}");
-        }
-    }
+    every_entry(Edition::First, 2_000, 100);
+}
+
+/// Of a triple with an X or Z in it there are few.
+#[test]
+fn every_entry_of_three_inputs_is_met() {
+    let met = every_entry(Edition::Second, 40_000, 100);
+    let multiplexer = met[usize::from(MULTIPLEXER)].iter().enumerate();
+    let third_unknown = multiplexer.filter(|(entry, _)| entry % 4 == usize::from(UNKNOWN));
+    let seen: u32 = third_unknown.map(|(_, seen)| seen).sum();
+    println!("multiplexers saw a third input of X {seen} times");
+    assert!(seen >= 10_000, "{seen}");
 }

@@ -1,54 +1,107 @@
 //! The loops that a network was made with are the loops that are found.
 
+use generate::sheets::{AND, INVERTER, MEMORY};
 use generate::{Generator, ZeroDelay};
-use plain::{check, Answer};
+use plain::{check, Answer, Edition, Module, Sheet};
 
-fn found_as_made(network: &ZeroDelay) {
+fn found_as_made(edition: Edition, network: &ZeroDelay) {
     let expected = match network.on_loops.iter().min() {
         Some(&node) => [18, u32::from(node), 0],
         None => Answer::Ran { count: 0 }.triple(),
     };
-    let answer = check(&network.sheet.encode()).triple();
+    let answer = check(edition, &network.sheet.encode(edition)).triple();
     assert_eq!(answer, expected, "{:?}", network.sheet);
 }
 
 #[test]
 fn rings_among_other_modules() {
-    let mut generator = Generator::new(10);
-    let mut without = 0;
-    for _ in 0..20_000 {
-        let network = generator.zero_delay();
-        found_as_made(&network);
-        without += usize::from(network.on_loops.is_empty());
+    for edition in Edition::ALL {
+        let mut generator = Generator::of(edition, 10);
+        let mut without = 0;
+        for _ in 0..20_000 {
+            let network = generator.zero_delay();
+            found_as_made(edition, &network);
+            without += usize::from(network.on_loops.is_empty());
+        }
+        assert!(
+            (5_000..=10_000).contains(&without),
+            "{without} have no loop"
+        );
     }
-    assert!(
-        (5_000..=10_000).contains(&without),
-        "{without} have no loop"
-    );
 }
 
 #[test]
 fn unused_inputs_close_no_loop() {
-    let mut generator = Generator::new(11);
-    for _ in 0..5_000 {
-        let network = generator.closed_by_unused_inputs();
-        assert_eq!(network.on_loops, []);
-        // Node 0 is driven without delay by a module that has an unused input.
-        let driver = network.sheet.driver(0).expect("node 0 is driven");
-        assert_eq!(driver.delay, 0);
-        assert_ne!(driver.unused_inputs().count(), 0);
-        found_as_made(&network);
+    for edition in Edition::ALL {
+        let mut generator = Generator::of(edition, 11);
+        for _ in 0..5_000 {
+            let network = generator.closed_by_unused_inputs();
+            assert_eq!(network.on_loops, []);
+            // Node 0 is driven without delay by a module that lacks an input of the record.
+            let driver = network.sheet.driver(0).expect("node 0 is driven");
+            assert_eq!(driver.delay, 0);
+            let lacks = match edition {
+                Edition::First => INVERTER,
+                Edition::Second => MEMORY,
+            };
+            assert!(driver.kind <= lacks, "{driver:?}");
+            found_as_made(edition, &network);
+        }
     }
 }
 
 #[test]
 fn tangles_have_loops_and_have_none() {
-    let mut generator = Generator::new(12);
-    let mut looped = 0;
-    for _ in 0..5_000 {
-        let [number, ..] = check(&generator.tangle().encode()).triple();
-        assert!(number == 0 || number == 18);
-        looped += usize::from(number == 18);
+    for edition in Edition::ALL {
+        let mut generator = Generator::of(edition, 12);
+        let mut looped = 0;
+        for _ in 0..5_000 {
+            let bytes = generator.tangle().encode(edition);
+            let [number, ..] = check(edition, &bytes).triple();
+            assert!(number == 0 || number == 18);
+            looped += usize::from(number == 18);
+        }
+        assert!((1_000..=4_000).contains(&looped), "{looped} have a loop");
     }
-    assert!((1_000..=4_000).contains(&looped), "{looped} have a loop");
+}
+
+/// The sheet without its third inputs: an AND stands for each kind that has three.
+fn without_third_inputs(sheet: &Sheet) -> Sheet {
+    let mut sheet = sheet.clone();
+    for module in sheet.modules.iter_mut().filter(|m| m.kind > MEMORY) {
+        *module = Module {
+            kind: AND,
+            third: 0,
+            ..*module
+        };
+    }
+    sheet
+}
+
+/// Counts the sheets of a family that a loop makes refused, and those of them that are accepted, or
+/// refused elsewhere, for whoever does not follow third inputs.
+fn by_third_inputs(name: &str, next: fn(&mut Generator) -> Sheet) {
+    let mut generator = Generator::of(Edition::Second, 13);
+    let [mut looped, mut hidden, mut elsewhere] = [0; 3];
+    for _ in 0..10_000 {
+        let sheet = next(&mut generator);
+        let answer = |sheet: &Sheet| check(Edition::Second, &sheet.encode(Edition::Second));
+        let [whole, without] = [&sheet, &without_third_inputs(&sheet)].map(answer);
+        looped += u32::from(whole.triple()[0] == 18);
+        hidden += u32::from(whole != without && without.triple()[0] == 0);
+        elsewhere += u32::from(whole != without && without.triple()[0] == 18);
+    }
+    println!(
+        "{name}: {looped} have a loop, {hidden} by third inputs alone, {elsewhere} the least node"
+    );
+    assert!(
+        hidden >= 300 && elsewhere >= 200,
+        "{name}: {hidden}, {elsewhere}"
+    );
+}
+
+#[test]
+fn third_inputs_alone_close_loops() {
+    by_third_inputs("rings", |generator| generator.zero_delay().sheet);
+    by_third_inputs("tangles", Generator::tangle);
 }

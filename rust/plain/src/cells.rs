@@ -63,17 +63,18 @@ impl<'a> Timelines<'a> {
     /// The cell that the module gives its output, or none where the initial value stands.
     fn module_cell(&mut self, module: &Module, tick: usize) -> Option<u8> {
         let seen = tick.checked_sub(usize::from(module.delay))?;
-        let [first, second] = self.used_cells(module, seen);
+        let values = self.used_cells(module, seen);
         if module.kind == MEMORY {
             self.memory_cell(module, seen)
         } else {
-            Some(rule(module.kind, module.parameter, first, second))
+            let used = &values[..module.input_count()];
+            Some(rule(module.kind, module.parameter, used))
         }
     }
 
-    /// The used inputs' cells. An unused input is not asked: its 0 names no node.
-    fn used_cells(&mut self, module: &Module, tick: usize) -> [u8; 2] {
-        let mut values = [UNKNOWN; 2];
+    /// The used inputs' cells come first. An unused input is not asked: its 0 names no node.
+    fn used_cells(&mut self, module: &Module, tick: usize) -> [u8; 3] {
+        let mut values = [UNKNOWN; 3];
         for (value, node) in values.iter_mut().zip(module.used_inputs()) {
             *value = self.cell(node, tick);
         }

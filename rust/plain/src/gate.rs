@@ -1,23 +1,23 @@
-//! The rules of the kinds, in document 01's words, and for the clocked inverter in document 02's,
-//! W-202.
+//! The rules of the kinds: in document 01's words, for the clocked inverter in document 02's, W-202,
+//! and for three inputs in W-205's.
 
 use crate::level::{HIGH, LOW, NONE, UNKNOWN};
 
-/// The rule of kinds 0 to 8 over the inputs' cells of one tick. An input that the kind lacks is
-/// not looked at. A memory has no such rule: it looks at the past.
-pub fn rule(kind: u8, parameter: u8, a: u8, b: u8) -> u8 {
-    let (a, b) = (seen(a), seen(b));
-    match kind {
-        0 => parameter,
-        1 => a,
-        2 => inverter(a),
-        3 => and(a, b),
-        4 => or(a, b),
-        5 => xor(a, b),
-        6 => inverter(and(a, b)),
-        7 => inverter(or(a, b)),
-        8 => clocked_inverter(a, b),
-        _ => panic!("kind {kind} has no rule over the cells of one tick"),
+/// The rule of a kind over the cells of its used inputs at one tick. A memory has no such rule: it
+/// looks at the past.
+pub fn rule(kind: u8, parameter: u8, inputs: &[u8]) -> u8 {
+    match (kind, inputs) {
+        (0, []) => parameter,
+        (1, &[a]) => seen(a),
+        (2, &[a]) => inverter(a),
+        (3, [_, _]) | (10, [_, _, _]) => and(inputs),
+        (4, [_, _]) | (11, [_, _, _]) => or(inputs),
+        (5, [_, _]) | (12, [_, _, _]) => xor(inputs),
+        (6, [_, _]) | (13, [_, _, _]) => inverter(and(inputs)),
+        (7, [_, _]) | (14, [_, _, _]) => inverter(or(inputs)),
+        (8, &[a, clock]) => clocked_inverter(a, clock),
+        (15, &[first, second, third]) => multiplexer(first, second, third),
+        _ => panic!("kind {kind} has no rule over {inputs:?} at one tick"),
     }
 }
 
@@ -36,37 +36,39 @@ fn seen(value: u8) -> u8 {
 }
 
 fn inverter(a: u8) -> u8 {
-    match a {
+    match seen(a) {
         LOW => HIGH,
         HIGH => LOW,
         _ => UNKNOWN,
     }
 }
 
-fn and(a: u8, b: u8) -> u8 {
-    if a == LOW || b == LOW {
+fn and(inputs: &[u8]) -> u8 {
+    if inputs.contains(&LOW) {
         LOW
-    } else if a == HIGH && b == HIGH {
+    } else if inputs.iter().all(|&value| value == HIGH) {
         HIGH
     } else {
         UNKNOWN
     }
 }
 
-fn or(a: u8, b: u8) -> u8 {
-    if a == HIGH || b == HIGH {
+fn or(inputs: &[u8]) -> u8 {
+    if inputs.contains(&HIGH) {
         HIGH
-    } else if a == LOW && b == LOW {
+    } else if inputs.iter().all(|&value| value == LOW) {
         LOW
     } else {
         UNKNOWN
     }
 }
 
-fn xor(a: u8, b: u8) -> u8 {
-    if a == UNKNOWN || b == UNKNOWN {
+/// Of two inputs an odd count of ones says that they differ.
+fn xor(inputs: &[u8]) -> u8 {
+    let ones = inputs.iter().filter(|&&value| value == HIGH).count();
+    if inputs.iter().any(|&value| seen(value) == UNKNOWN) {
         UNKNOWN
-    } else if a != b {
+    } else if ones % 2 == 1 {
         HIGH
     } else {
         LOW
@@ -77,6 +79,17 @@ fn clocked_inverter(a: u8, clock: u8) -> u8 {
     match clock {
         HIGH => inverter(a),
         LOW => NONE,
+        _ => UNKNOWN,
+    }
+}
+
+/// The third input chooses. Where it does not tell, both must say the same.
+fn multiplexer(first: u8, second: u8, third: u8) -> u8 {
+    match (third, [first, second]) {
+        (HIGH, _) => seen(second),
+        (LOW, _) => seen(first),
+        (_, [LOW, LOW]) => LOW,
+        (_, [HIGH, HIGH]) => HIGH,
         _ => UNKNOWN,
     }
 }

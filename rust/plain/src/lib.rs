@@ -8,6 +8,7 @@
 
 mod answer;
 mod cells;
+mod edition;
 mod gate;
 mod level;
 mod listing;
@@ -24,6 +25,7 @@ mod zero_delay;
 
 pub use answer::Answer;
 pub use cells::cells;
+pub use edition::Edition;
 pub use gate::{in_set, rule};
 pub use level::{HIGH, LOW, NONE, UNKNOWN};
 pub use listing::run;

@@ -2,17 +2,18 @@
 
 use crate::answer::Answer;
 use crate::cells::cells;
+use crate::edition::Edition;
 use crate::pending::pending;
 use crate::read::read;
 use crate::record::Record;
 use crate::sheet::Sheet;
 
 /// Runs the sheet to the horizon and writes its records to the front of `listing`.
-pub fn run(sheet: &[u8], horizon: u32, listing: &mut [u8]) -> Answer {
+pub fn run(edition: Edition, sheet: &[u8], horizon: u32, listing: &mut [u8]) -> Answer {
     if horizon == 0 || horizon > 1_000_000 {
         return Answer::unread(1, 0);
     }
-    match read(sheet) {
+    match read(edition, sheet) {
         Ok(sheet) => list(&sheet, horizon, listing),
         Err(refusal) => refusal,
     }

@@ -1,6 +1,7 @@
 //! What the program prints.
 
 use crate::answer::Answer;
+use crate::edition::Edition;
 use crate::level::symbol;
 use crate::listing::run;
 use crate::record::Record;
@@ -12,11 +13,11 @@ const LENT: usize = 60_000;
 /// One byte more than the longest sheet, so that bytes left over are seen.
 const READ_AT_MOST: usize = 8_457;
 
-/// The bytes that the program prints for this standard input.
+/// The bytes that the program prints for this standard input. It keeps to the first edition.
 pub fn program(input: &[u8]) -> Vec<u8> {
     let (horizon, sheet) = parts(input);
     let mut listing = vec![0; LENT];
-    let answer = run(sheet, horizon, &mut listing);
+    let answer = run(Edition::First, sheet, horizon, &mut listing);
     let mut printed = sentence(answer) + "\n";
     if let Answer::Ran { count } = answer {
         printed += &records(&listing, count);

@@ -2,18 +2,19 @@
 //! strict check alone.
 
 use crate::answer::Answer;
+use crate::edition::Edition;
 use crate::reader::Reader;
 use crate::sheet::{Event, Module, Sheet, INPUT};
 use crate::zero_delay;
 
 /// Checks the sheet without running it.
-pub fn check(sheet: &[u8]) -> Answer {
-    answer(read(sheet))
+pub fn check(edition: Edition, sheet: &[u8]) -> Answer {
+    answer(read(edition, sheet))
 }
 
 /// Checks the sheet and that every input has an event at tick 0: refusal 15 otherwise.
-pub fn check_strict(sheet: &[u8]) -> Answer {
-    answer(read_then(sheet, every_input_begins))
+pub fn check_strict(edition: Edition, sheet: &[u8]) -> Answer {
+    answer(read_then(edition, sheet, every_input_begins))
 }
 
 fn answer(read: Result<Sheet, Answer>) -> Answer {
@@ -24,16 +25,20 @@ fn answer(read: Result<Sheet, Answer>) -> Answer {
 }
 
 /// The sheet that the bytes hold, or the one refusal they meet.
-pub fn read(sheet: &[u8]) -> Result<Sheet, Answer> {
-    read_then(sheet, |_| Ok(()))
+pub fn read(edition: Edition, sheet: &[u8]) -> Result<Sheet, Answer> {
+    read_then(edition, sheet, |_| Ok(()))
 }
 
 /// Reads front to back. What is asked after the drive is given.
-fn read_then(sheet: &[u8], after_drive: fn(&Sheet) -> Result<(), Answer>) -> Result<Sheet, Answer> {
+fn read_then(
+    edition: Edition,
+    sheet: &[u8],
+    after_drive: fn(&Sheet) -> Result<(), Answer>,
+) -> Result<Sheet, Answer> {
     let mut reader = Reader::new(sheet);
     let mut sheet = Sheet::default();
     read_nodes(&mut reader, &mut sheet)?;
-    read_modules(&mut reader, &mut sheet)?;
+    read_modules(edition, &mut reader, &mut sheet)?;
     after_modules(&sheet)?;
     read_drive(&mut reader, &mut sheet)?;
     after_drive(&sheet)?;
@@ -54,11 +59,11 @@ fn read_nodes(reader: &mut Reader, sheet: &mut Sheet) -> Result<(), Answer> {
     Ok(())
 }
 
-fn read_modules(reader: &mut Reader, sheet: &mut Sheet) -> Result<(), Answer> {
+fn read_modules(edition: Edition, reader: &mut Reader, sheet: &mut Sheet) -> Result<(), Answer> {
     for _ in 0..reader.count(0, 256)? {
         let place = reader.place();
-        let module = Module::from_bytes(reader.take()?);
-        if let Some(number) = module_refusal(&module, sheet) {
+        let module = Module::from_bytes(reader.take_bytes(edition.module_bytes())?);
+        if let Some(number) = module_refusal(edition, &module, sheet) {
             return Err(Answer::unread(number, place));
         }
         sheet.modules.push(module);
@@ -67,8 +72,8 @@ fn read_modules(reader: &mut Reader, sheet: &mut Sheet) -> Result<(), Answer> {
 }
 
 /// The first of 5 to 9 that the module meets after the modules read so far.
-fn module_refusal(module: &Module, sheet: &Sheet) -> Option<u32> {
-    if module.kind > 9 {
+fn module_refusal(edition: Edition, module: &Module, sheet: &Sheet) -> Option<u32> {
+    if module.kind > edition.greatest_kind() {
         Some(5)
     } else if !parameter_allowed(module) {
         Some(6)

@@ -25,11 +25,17 @@ impl<'a> Reader<'a> {
     /// The next N bytes, or refusal 2 at their first byte. This is also the answer where the
     /// bytes end exactly before it.
     pub(crate) fn take<const N: usize>(&mut self) -> Result<[u8; N], Answer> {
-        let Some(taken) = self.bytes[self.at..].first_chunk() else {
+        let taken = self.take_bytes(N)?;
+        Ok(taken.try_into().expect("so many were taken"))
+    }
+
+    /// The same for a number of bytes that an edition gives.
+    pub(crate) fn take_bytes(&mut self, count: usize) -> Result<&'a [u8], Answer> {
+        let Some(taken) = self.bytes[self.at..].get(..count) else {
             return Err(Answer::unread(2, self.at));
         };
-        self.at += N;
-        Ok(*taken)
+        self.at += count;
+        Ok(taken)
     }
 
     /// The next count, which must lie in the range from `least` to `most`, or refusal 2 or 3.

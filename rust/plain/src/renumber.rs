@@ -43,14 +43,14 @@ fn number(node: u8, to: &[u8]) -> u8 {
 }
 
 fn module(module: &Module, to: &[u8]) -> Module {
-    let used = module.input_count();
-    let input = |place: usize, node: u8| if place < used { number(node, to) } else { node };
-    Module {
+    let mut module = Module {
         output: number(module.output, to),
-        first: input(0, module.first),
-        second: input(1, module.second),
         ..*module
+    };
+    for input in module.used_inputs_mut() {
+        *input = number(*input, to);
     }
+    module
 }
 
 fn drive(events: &[Event], to: &[u8]) -> Vec<Event> {

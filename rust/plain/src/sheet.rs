@@ -1,5 +1,7 @@
 //! The sheet and its records.
 
+use crate::edition::Edition;
+
 /// The byte of a node that is an input.
 pub const INPUT: u8 = 4;
 
@@ -20,6 +22,8 @@ pub struct Module {
     pub output: u8,
     pub first: u8,
     pub second: u8,
+    /// The first edition has none: it is 0 there.
+    pub third: u8,
     pub delay: u16,
 }
 
@@ -32,13 +36,14 @@ pub struct Event {
 }
 
 impl Sheet {
-    /// The sheet's bytes, whether or not they would be accepted.
-    pub fn encode(&self) -> Vec<u8> {
+    /// The sheet's bytes in an edition, whether or not they would be accepted.
+    pub fn encode(&self, edition: Edition) -> Vec<u8> {
         let mut bytes = Vec::new();
         bytes.extend(count(self.nodes.len()));
         bytes.extend(&self.nodes);
         bytes.extend(count(self.modules.len()));
-        bytes.extend(self.modules.iter().flat_map(|module| module.to_bytes()));
+        let modules = self.modules.iter();
+        bytes.extend(modules.flat_map(|module| module.to_bytes(edition)));
         bytes.extend(count(self.drive.len()));
         bytes.extend(self.drive.iter().flat_map(|event| event.to_bytes()));
         bytes.extend(count(self.watched.len()));
@@ -73,47 +78,59 @@ impl Module {
         match self.kind {
             0 => 0,
             1 | 2 => 1,
-            _ => 2,
+            3..=9 => 2,
+            _ => 3,
         }
     }
 
     /// The inputs that the kind has.
     pub fn used_inputs(&self) -> impl Iterator<Item = u8> {
-        [self.first, self.second]
-            .into_iter()
-            .take(self.input_count())
+        self.inputs().into_iter().take(self.input_count())
+    }
+
+    /// The same, to be changed.
+    pub fn used_inputs_mut(&mut self) -> impl Iterator<Item = &mut u8> {
+        let used = self.input_count();
+        let inputs = [&mut self.first, &mut self.second, &mut self.third];
+        inputs.into_iter().take(used)
     }
 
     /// The inputs that the kind lacks.
     pub fn unused_inputs(&self) -> impl Iterator<Item = u8> {
-        [self.first, self.second]
-            .into_iter()
-            .skip(self.input_count())
+        self.inputs().into_iter().skip(self.input_count())
     }
 
-    pub(crate) fn from_bytes(bytes: [u8; 7]) -> Module {
-        let [kind, parameter, output, first, second, low, high] = bytes;
+    fn inputs(&self) -> [u8; 3] {
+        [self.first, self.second, self.third]
+    }
+
+    /// The module of a record of either edition. The third input stands before the delay.
+    pub(crate) fn from_bytes(bytes: &[u8]) -> Module {
+        let &[kind, parameter, output, first, second, ref third @ .., low, high] = bytes else {
+            panic!("{} bytes are no module", bytes.len());
+        };
         Module {
             kind,
             parameter,
             output,
             first,
             second,
+            third: third.first().copied().unwrap_or(0),
             delay: u16::from_le_bytes([low, high]),
         }
     }
 
-    fn to_bytes(self) -> [u8; 7] {
-        let [low, high] = self.delay.to_le_bytes();
-        [
+    fn to_bytes(self, edition: Edition) -> Vec<u8> {
+        let mut bytes = vec![
             self.kind,
             self.parameter,
             self.output,
             self.first,
             self.second,
-            low,
-            high,
-        ]
+        ];
+        bytes.extend((edition == Edition::Second).then_some(self.third));
+        bytes.extend(self.delay.to_le_bytes());
+        bytes
     }
 }
 

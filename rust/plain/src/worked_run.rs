@@ -1,5 +1,9 @@
 //! Document 01's one complete run, with the ends of document 02's W-204.
 
+use crate::edition::Edition;
+use crate::read::read;
+use crate::sheet::Sheet;
+
 /// The program's standard input: the horizon 12, then [`SHEET`].
 pub const INPUT: [u8; 35] = [
     0x0C, 0x00, 0x00, 0x00, // horizon
@@ -16,6 +20,11 @@ pub const HORIZON: u32 = 12;
 
 /// The sheet after the four bytes of the horizon.
 pub const SHEET: &[u8] = INPUT.split_at(4).1;
+
+/// The sheet that these bytes hold in the first edition, to be written down in another.
+pub fn sheet() -> Sheet {
+    read(Edition::First, SHEET).expect("it is accepted")
+}
 
 /// What the program prints.
 pub const PRINTED: &str =

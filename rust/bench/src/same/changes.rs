@@ -23,6 +23,7 @@ impl Changes {
     }
 
     /// Puts the changes due into the values, and keeps the others.
+    #[inline(never)]
     pub fn apply_due(&mut self, tick: u32, tables: &Tables, values: &mut [u8; 256]) {
         self.0.retain(|change| {
             let is_due = change / 1_024 == tick;

@@ -1,17 +1,23 @@
 //! The sheet's modules and the gates' rules, laid out for the run.
 
-use generate::sheets::{CONSTANT, MEMORY};
+use generate::sheets::{AND_3, BUFFER, CONSTANT, INVERTER, MEMORY, MULTIPLEXER};
 use plain::{in_set, rule, Sheet};
 
 use super::order::in_working_order;
 
-/// The bytes of a module: kind, parameter, output, first and second input, and three unused.
+/// How many kinds have three inputs.
+const OF_THREE: usize = (MULTIPLEXER - AND_3 + 1) as usize;
+
+/// The bytes of a module: kind, parameter, output, the three inputs, and two unused.
 pub type Bytes = [u8; 8];
 
 pub struct Tables {
-    /// The rules of the gates, at 16 times the kind and 4 times the first input's value and the
-    /// second's.
+    /// The rules of the gates of one and two inputs, at 16 times the kind and 4 times the first input's
+    /// value and the second's.
     gates: [u8; 256],
+    /// Those of three inputs, at 64 times the kind from the first of them on, and 16 times the first
+    /// input's value, 4 times the second's and the third's.
+    of_three: [u8; 64 * OF_THREE],
     /// The modules in working order.
     modules: Vec<Bytes>,
     delays: Vec<u16>,
@@ -22,11 +28,21 @@ pub struct Tables {
 impl Tables {
     pub fn new(sheet: &Sheet) -> Tables {
         let order = in_working_order(sheet);
-        let bytes = order
-            .iter()
-            .map(|m| [m.kind, m.parameter, m.output, m.first, m.second, 0, 0, 0]);
+        let bytes = order.iter().map(|m| {
+            [
+                m.kind,
+                m.parameter,
+                m.output,
+                m.first,
+                m.second,
+                m.third,
+                0,
+                0,
+            ]
+        });
         Tables {
             gates: std::array::from_fn(gate),
+            of_three: std::array::from_fn(gate_of_three),
             modules: bytes.collect(),
             delays: order.iter().map(|module| module.delay).collect(),
             delayed: order.iter().filter(|module| module.delay > 0).count(),
@@ -54,19 +70,27 @@ impl Tables {
         (self.delayed, &self.modules[self.delayed..])
     }
 
-    /// What a module comes to over the values, holding the value that it came to last.
+    /// What a module comes to over the values, holding the value that it came to last. Its third input is
+    /// looked up for a gate of three inputs alone.
     pub fn comes_to(&self, module: &Bytes, values: &[u8; 256], held: u8) -> u8 {
-        let &[kind, parameter, _, first, second, ..] = module;
+        let &[kind, parameter, _, first, second, third, ..] = module;
         let [first, second] = [first, second].map(|node| values[usize::from(node)]);
-        match kind {
-            CONSTANT => parameter,
-            MEMORY if in_set(parameter, second) => first,
-            MEMORY => held,
-            _ => {
-                let place = 16 * usize::from(kind) + 4 * usize::from(first) + usize::from(second);
-                self.gates[place]
-            }
+        if kind == CONSTANT {
+            return parameter;
         }
+        let pair = 4 * usize::from(first) + usize::from(second);
+        if kind < MEMORY {
+            return self.gates[16 * usize::from(kind) + pair];
+        }
+        if kind == MEMORY {
+            return if in_set(parameter, second) {
+                first
+            } else {
+                held
+            };
+        }
+        let third = values[usize::from(third)];
+        self.of_three[64 * usize::from(kind - AND_3) + 4 * pair + usize::from(third)]
     }
 }
 
@@ -75,6 +99,14 @@ fn gate(place: usize) -> u8 {
     let [kind, first, second] = [place / 16, place / 4 % 4, place % 4].map(|part| part as u8);
     match kind {
         CONSTANT | MEMORY.. => 0,
-        _ => rule(kind, 0, first, second),
+        BUFFER | INVERTER => rule(kind, 0, &[first]),
+        _ => rule(kind, 0, &[first, second]),
     }
+}
+
+/// An entry of those of three inputs.
+fn gate_of_three(place: usize) -> u8 {
+    let parts = [place / 64, place / 16 % 4, place / 4 % 4, place % 4];
+    let [from_first, first, second, third] = parts.map(|part| part as u8);
+    rule(AND_3 + from_first, 0, &[first, second, third])
 }

@@ -79,6 +79,7 @@ impl<'a> Tick<'a> {
     }
 
     /// Works the modules of delay zero in their order.
+    #[inline(never)]
     fn settle_all(&mut self) {
         let (from, modules) = self.tables.zero_delay();
         for (module, last) in modules.iter().zip(&mut self.last[from..]) {
@@ -90,6 +91,7 @@ impl<'a> Tick<'a> {
     }
 
     /// Schedules what each delayed module comes to, if that differs from what it came to last.
+    #[inline(never)]
     fn schedule_all(&mut self, tick: u32) {
         let delayed = self.tables.delayed().zip(&mut self.last).enumerate();
         for (position, ((module, delay), last)) in delayed {

@@ -59,7 +59,7 @@ fn process(module: &Module) -> String {
 }
 
 fn result(module: &Module) -> String {
-    let (a, b) = (name(module.first), name(module.second));
+    let [a, b, c] = [module.first, module.second, module.third].map(name);
     match module.kind {
         CONSTANT => value(module.parameter).to_string(),
         // Twice inverted, so that z becomes x.
@@ -72,6 +72,13 @@ fn result(module: &Module) -> String {
         NOR => format!("~({a} | {b})"),
         // A condition of x or z gives x where the two results differ, and ~ never gives z.
         CLOCKED_INVERTER => format!("{b} ? ~{a} : 1'bz"),
+        AND_3 => format!("{a} & {b} & {c}"),
+        OR_3 => format!("{a} | {b} | {c}"),
+        XOR_3 => format!("{a} ^ {b} ^ {c}"),
+        NAND_3 => format!("~({a} & {b} & {c})"),
+        NOR_3 => format!("~({a} | {b} | {c})"),
+        // So it is with what a multiplexer chooses, and a chosen z becomes x.
+        MULTIPLEXER => format!("~(~({c} ? {b} : {a}))"),
         _ => a,
     }
 }

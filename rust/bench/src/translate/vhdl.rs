@@ -38,13 +38,20 @@ fn events(sheet: &Sheet, node: u8) -> Option<String> {
 }
 
 fn statement(module: &Module) -> String {
-    let (a, b) = (name(module.first), name(module.second));
+    let [a, b, c] = [module.first, module.second, module.third].map(name);
     let output = name(module.output);
     let after = after(module);
     match module.kind {
         CLOCKED_INVERTER => {
             let by_clock = format!("not {a}{after} when {b} = '1' else 'Z'{after} when {b} = '0'");
             format!("{output} <= transport {by_clock} else 'X'{after};")
+        }
+        // Twice inverted, so that 'Z' becomes 'X'. Both are 'X' where they are equal and not known.
+        MULTIPLEXER => {
+            let [first, second] = [&a, &b].map(|node| format!("not (not {node}){after}"));
+            let chosen =
+                format!("{second} when {c} = '1' else {first} when {c} = '0' or {a} = {b}");
+            format!("{output} <= transport {chosen} else 'X'{after};")
         }
         MEMORY => memory_statement(module),
         _ => format!("{output} <= transport {}{after};", result(module)),
@@ -60,7 +67,7 @@ fn after(module: &Module) -> String {
 }
 
 fn result(module: &Module) -> String {
-    let (a, b) = (name(module.first), name(module.second));
+    let [a, b, c] = [module.first, module.second, module.third].map(name);
     match module.kind {
         CONSTANT => value(module.parameter).to_string(),
         // Twice inverted, so that 'Z' becomes 'X'.
@@ -70,7 +77,12 @@ fn result(module: &Module) -> String {
         OR => format!("{a} or {b}"),
         XOR => format!("{a} xor {b}"),
         NAND => format!("{a} nand {b}"),
-        _ => format!("{a} nor {b}"),
+        NOR => format!("{a} nor {b}"),
+        AND_3 => format!("{a} and {b} and {c}"),
+        OR_3 => format!("{a} or {b} or {c}"),
+        XOR_3 => format!("{a} xor {b} xor {c}"),
+        NAND_3 => format!("not ({a} and {b} and {c})"),
+        _ => format!("not ({a} or {b} or {c})"),
     }
 }
 

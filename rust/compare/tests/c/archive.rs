@@ -44,9 +44,12 @@ fn what_it_offers_and_asks_for() {
         symbols("T"),
         [
             "timing_check",
+            "timing_check_2",
             "timing_check_strict",
+            "timing_check_strict_2",
             "timing_describe",
-            "timing_run"
+            "timing_run",
+            "timing_run_2"
         ]
     );
     assert_eq!(symbols("U"), ["memcpy", "memset"]);

@@ -6,6 +6,8 @@
  *     calls check_strict
  *     calls run HORIZON BYTES
  *     calls describe NUMBER PLACE COUNT BYTES
+ *
+ * The calls of the second edition are check_2, check_strict_2 and run_2.
  */
 #include <inttypes.h>
 #include <stdio.h>
@@ -19,14 +21,29 @@
 
 /* The entry points' types, written once more: the header's must be these. */
 typedef void check_type(const uint8_t *, size_t, uint32_t *);
+typedef void run_type(const uint8_t *, size_t, uint32_t, uint8_t *, size_t, uint32_t *);
 
-static check_type *const check_call = timing_check;
-static check_type *const check_strict_call = timing_check_strict;
-static void (*const run_call)(const uint8_t *, size_t, uint32_t, uint8_t *, size_t, uint32_t *) = timing_run;
+static const struct {
+    const char *name;
+    check_type *call;
+} checks[] = {
+    {"check", timing_check},
+    {"check_strict", timing_check_strict},
+    {"check_2", timing_check_2},
+    {"check_strict_2", timing_check_strict_2}
+};
+
+static const struct {
+    const char *name;
+    run_type *call;
+} runs[] = {
+    {"run", timing_run},
+    {"run_2", timing_run_2}
+};
 
 static void (*const describe_call)(uint32_t, uint32_t, uint32_t, uint8_t *, size_t, uint32_t *) = timing_describe;
 
-static uint8_t sheet[2 * TIMING_LONGEST_SHEET];
+static uint8_t sheet[2 * TIMING_LONGEST_SHEET_2];
 static uint8_t lent[60000];
 
 static void print_answer(const uint32_t answer[3])
@@ -49,12 +66,12 @@ static void check(check_type *call, size_t length)
     print_answer(answer);
 }
 
-static void run(size_t length, uint32_t horizon, size_t bytes)
+static void run(run_type *call, size_t length, uint32_t horizon, size_t bytes)
 {
     uint32_t answer[3] = {UINT32_MAX, UINT32_MAX, UINT32_MAX};
 
     memset(lent, UNTOUCHED, sizeof lent);
-    run_call(sheet, length, horizon, lent, bytes, answer);
+    call(sheet, length, horizon, lent, bytes, answer);
     print_answer(answer);
     print_lent(bytes);
 }
@@ -78,20 +95,20 @@ int main(int argc, char **argv)
 {
     size_t length = fread(sheet, 1, sizeof sheet, stdin);
 
-    if (argc == 2 && strcmp(argv[1], "check") == 0) {
-        check(check_call, length);
-        return EXIT_SUCCESS;
-    }
-    if (argc == 2 && strcmp(argv[1], "check_strict") == 0) {
-        check(check_strict_call, length);
-        return EXIT_SUCCESS;
-    }
-    if (argc == 4 && strcmp(argv[1], "run") == 0) {
-        size_t bytes = strtoul(argv[3], NULL, 10);
-
-        if (bytes <= sizeof lent) {
-            run(length, word(argv[2]), bytes);
+    for (size_t i = 0; i < sizeof checks / sizeof *checks; i++) {
+        if (argc == 2 && strcmp(argv[1], checks[i].name) == 0) {
+            check(checks[i].call, length);
             return EXIT_SUCCESS;
+        }
+    }
+    for (size_t i = 0; i < sizeof runs / sizeof *runs; i++) {
+        if (argc == 4 && strcmp(argv[1], runs[i].name) == 0) {
+            size_t bytes = strtoul(argv[3], NULL, 10);
+
+            if (bytes <= sizeof lent) {
+                run(runs[i].call, length, word(argv[2]), bytes);
+                return EXIT_SUCCESS;
+            }
         }
     }
     if (argc == 6 && strcmp(argv[1], "describe") == 0) {
@@ -103,6 +120,6 @@ int main(int argc, char **argv)
             return EXIT_SUCCESS;
         }
     }
-    fprintf(stderr, "usage: calls check | calls check_strict | calls run HORIZON BYTES | calls describe NUMBER PLACE COUNT BYTES\n");
+    fprintf(stderr, "usage: calls CHECK | calls RUN HORIZON BYTES | calls describe NUMBER PLACE COUNT BYTES\n");
     return EXIT_FAILURE;
 }

@@ -7,8 +7,8 @@ use compare::hex;
 use generate::limits::RECORD_BYTES;
 use generate::shared::{four_buffers, toggled};
 use generate::sheets::constant;
-use generate::{by_hand, Generator, Size};
-use plain::{sentence, worked_run, Answer, HIGH};
+use generate::{by_hand, runs_by_hand, Generator, Size};
+use plain::{sentence, worked_run, Answer, Edition, Sheet, HIGH};
 
 use crate::compiled::Program;
 
@@ -21,27 +21,37 @@ fn words([number, place, count]: [u32; 3]) -> String {
     format!("{number} {place} {count}\n")
 }
 
+/// The name of a call for sheets of an edition.
+fn call_of(edition: Edition, name: &str) -> String {
+    match edition {
+        Edition::First => name.to_string(),
+        Edition::Second => format!("{name}_2"),
+    }
+}
+
 /// Asserts that a check and a strict one from C answer what the plain simulator does, and gives the
 /// numbers.
-fn checked(sheet: &[u8], whence: &str) -> [u32; 2] {
+fn checked(edition: Edition, sheet: &[u8], whence: &str) -> [u32; 2] {
     let answers = [
-        ("check", plain::check(sheet)),
-        ("check_strict", plain::check_strict(sheet)),
+        ("check", plain::check(edition, sheet)),
+        ("check_strict", plain::check_strict(edition, sheet)),
     ];
-    answers.map(|(call, answer)| {
+    answers.map(|(name, answer)| {
         let answer = answer.triple();
-        let printed = CALLS.printed(&[call.into()], sheet);
-        assert_eq!(printed, words(answer), "{call}, {whence}: {}", hex(sheet));
+        let call = [call_of(edition, name)];
+        let printed = CALLS.printed(&call, sheet);
+        assert_eq!(printed, words(answer), "{call:?}, {whence}: {}", hex(sheet));
         answer[0]
     })
 }
 
 /// Asserts that a run from C answers what the plain simulator does and leaves the same bytes, and
 /// gives the answer.
-fn ran(sheet: &[u8], horizon: u32, bytes: usize, whence: &str) -> [u32; 3] {
+fn ran(edition: Edition, sheet: &[u8], horizon: u32, bytes: usize, whence: &str) -> [u32; 3] {
     let mut listing = vec![UNTOUCHED; bytes];
-    let answer = plain::run(sheet, horizon, &mut listing).triple();
-    let arguments = ["run".into(), horizon.to_string(), bytes.to_string()];
+    let answer = plain::run(edition, sheet, horizon, &mut listing).triple();
+    let call = call_of(edition, "run");
+    let arguments = [call, horizon.to_string(), bytes.to_string()];
     let printed = CALLS.printed(&arguments, sheet);
     let expected = format!("{}{}\n", words(answer), hex(&listing));
     assert_eq!(printed, expected, "{whence}: {}", hex(sheet));
@@ -75,55 +85,75 @@ fn answers_described() {
 
 #[test]
 fn the_worked_run() {
-    let run = |bytes| ran(worked_run::SHEET, worked_run::HORIZON, bytes, "worked run");
-    assert_eq!(run(60), [0, 0, 6]);
-    assert_eq!(run(60_000), [0, 0, 6]);
-    assert_eq!(run(59), [19, 11, 5]);
-    assert_eq!(run(0), [19, 0, 0]);
-    assert_eq!(checked(worked_run::SHEET, "worked run"), [0, 0]);
+    for edition in Edition::ALL {
+        let sheet = worked_run::sheet().encode(edition);
+        let run = |bytes| ran(edition, &sheet, worked_run::HORIZON, bytes, "worked run");
+        assert_eq!(run(60), [0, 0, 6]);
+        assert_eq!(run(60_000), [0, 0, 6]);
+        assert_eq!(run(59), [19, 11, 5]);
+        assert_eq!(run(0), [19, 0, 0]);
+        assert_eq!(checked(edition, &sheet, "worked run"), [0, 0]);
+    }
 }
 
 /// The horizon, 19 and 20; a sheet's refusals are below.
 #[test]
 fn refusals_of_a_run() {
-    for horizon in [0, 1_000_001, u32::MAX] {
-        assert_eq!(ran(worked_run::SHEET, horizon, 60, "horizon"), [1, 0, 0]);
-    }
     let mut modules = four_buffers();
     modules.push(constant(HIGH, 5, 5_000));
-    let crowded = toggled(&modules).encode();
-    assert_eq!(
-        ran(&crowded, 10_000, 60_000, "4,097 pending"),
-        [20, 1_023, 1_024]
-    );
-    assert_eq!(
-        ran(&crowded, 10_000, RECORD_BYTES * 1_024 - 1, "no room before"),
-        [19, 1_023, 1_023]
-    );
+    let crowded = toggled(&modules);
+    for edition in Edition::ALL {
+        let run = |sheet: &Sheet, horizon, bytes| {
+            ran(edition, &sheet.encode(edition), horizon, bytes, "refused")
+        };
+        for horizon in [0, 1_000_001, u32::MAX] {
+            assert_eq!(run(&worked_run::sheet(), horizon, 60), [1, 0, 0]);
+        }
+        assert_eq!(run(&crowded, 10_000, 60_000), [20, 1_023, 1_024]);
+        // No room before 4,097 are pending.
+        let bytes = RECORD_BYTES * 1_024 - 1;
+        assert_eq!(run(&crowded, 10_000, bytes), [19, 1_023, 1_023]);
+    }
 }
 
 /// Every sheet worked out by hand, checked, checked strictly and run: refusals 2 to 18, 15 strictly
 /// alone, and 19 for the small buffer.
 #[test]
 fn sheets_worked_out_by_hand() {
-    let mut met = [(); 3].map(|()| BTreeSet::new());
-    for case in by_hand::cases() {
-        let [check, strict] = checked(&case.sheet, case.name);
-        let [run, ..] = ran(&case.sheet, 12, 120, case.name);
-        for (met, number) in met.iter_mut().zip([check, strict, run]) {
-            met.insert(number);
+    for edition in Edition::ALL {
+        let mut met = [(); 3].map(|()| BTreeSet::new());
+        let mut cases = by_hand::cases();
+        cases.retain(|case| case.edition == edition);
+        for case in cases {
+            let [check, strict] = checked(edition, &case.sheet, case.name);
+            let [run, ..] = ran(edition, &case.sheet, 12, 120, case.name);
+            for (met, number) in met.iter_mut().zip([check, strict, run]) {
+                met.insert(number);
+            }
         }
+        let [check, strict, run] = met;
+        let without = |number: u32| move |met: &u32| *met != number;
+        assert_eq!(strict, [0].into_iter().chain(2..=18).collect());
+        assert_eq!(check, strict.iter().copied().filter(without(15)).collect());
+        assert_eq!(run, check.iter().copied().chain([19]).collect());
     }
-    let [check, strict, run] = met;
-    let without = |number: u32| move |met: &u32| *met != number;
-    assert_eq!(strict, [0].into_iter().chain(2..=18).collect());
-    assert_eq!(check, strict.iter().copied().filter(without(15)).collect());
-    assert_eq!(run, check.iter().copied().chain([19]).collect());
+}
+
+/// Document 02's W-205 from C.
+#[test]
+fn runs_of_three_inputs() {
+    for case in runs_by_hand::cases() {
+        let sheet = case.sheet.encode(Edition::Second);
+        let answer = ran(Edition::Second, &sheet, case.horizon, 120, case.name);
+        assert_eq!(answer, [0, 0, case.records.len() as u32], "{}", case.name);
+    }
 }
 
 #[test]
 fn a_full_sheet() {
-    let sheet = Generator::new(4).valid(Size::Full).encode();
-    let [number, ..] = ran(&sheet, 20, 60_000, "full");
-    assert_eq!(number, 0);
+    for edition in Edition::ALL {
+        let sheet = Generator::of(edition, 4).valid(Size::Full).encode(edition);
+        let [number, ..] = ran(edition, &sheet, 20, 60_000, "full");
+        assert_eq!(number, 0);
+    }
 }

@@ -3,6 +3,7 @@
 use std::fs;
 
 use compare::repository;
+use plain::Edition;
 
 /// A name and its number.
 pub type Named = (String, u32);
@@ -80,9 +81,13 @@ fn bound(file: &str, name: &str) -> u32 {
         .expect("the theorem has a bound")
 }
 
-/// The bound in the theorem on the longest sheet.
-pub fn longest_sheet() -> u32 {
-    bound("format/proofs/Theorems.antt", "longest-sheet")
+/// The bound in the theorem on an edition's longest sheet.
+pub fn longest_sheet(edition: Edition) -> u32 {
+    let theorem = match edition {
+        Edition::First => "longest-sheet",
+        Edition::Second => "longest-sheet-2",
+    };
+    bound("format/proofs/Theorems.antt", theorem)
 }
 
 /// The bound in the theorem on the longest sentence.

@@ -3,8 +3,9 @@
 use std::fs;
 
 use compare::repository;
+use plain::Edition;
 
-use crate::definitions::{self, leading_number, Named};
+use crate::definitions::{self, leading_number, longest_sheet, Named};
 
 fn header() -> String {
     fs::read_to_string(repository().join("include/timing.h")).expect("there is a header")
@@ -90,7 +91,8 @@ fn limits() {
         macros().into_iter().partition(|(name, _)| is_stack(name));
     assert_eq!(stacks.len(), 3);
     for (name, bound) in [
-        ("TIMING_LONGEST_SHEET", definitions::longest_sheet()),
+        ("TIMING_LONGEST_SHEET", longest_sheet(Edition::First)),
+        ("TIMING_LONGEST_SHEET_2", longest_sheet(Edition::Second)),
         ("TIMING_LONGEST_SENTENCE", definitions::longest_sentence()),
     ] {
         let longest = (name.to_string(), bound);

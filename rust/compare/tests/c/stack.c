@@ -7,6 +7,8 @@
  *     stack check_strict
  *     stack run HORIZON
  *     stack describe NUMBER PLACE COUNT
+ *
+ * The calls of the second edition are check_2, check_strict_2 and run_2.
  */
 #define _POSIX_C_SOURCE 200809L
 
@@ -21,7 +23,7 @@
 #define PAGE 4096
 #define UNTOUCHED 0xA5
 
-static uint8_t sheet[2 * TIMING_LONGEST_SHEET];
+static uint8_t sheet[2 * TIMING_LONGEST_SHEET_2];
 static size_t length;
 static const char *call;
 static uint32_t words[3]; /* the call's numbers */
@@ -46,8 +48,14 @@ static void *call_on(void *stack)
         timing_check(sheet, length, answer);
     else if (strcmp(call, "check_strict") == 0)
         timing_check_strict(sheet, length, answer);
+    else if (strcmp(call, "check_2") == 0)
+        timing_check_2(sheet, length, answer);
+    else if (strcmp(call, "check_strict_2") == 0)
+        timing_check_strict_2(sheet, length, answer);
     else if (strcmp(call, "run") == 0)
         timing_run(sheet, length, words[0], listing, sizeof listing, answer);
+    else if (strcmp(call, "run_2") == 0)
+        timing_run_2(sheet, length, words[0], listing, sizeof listing, answer);
     else
         timing_describe(words[0], words[1], words[2], text, sizeof text, answer);
     used = frame - lowest_touched(stack);

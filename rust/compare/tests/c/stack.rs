@@ -1,16 +1,16 @@
 //! No call uses more stack than the header says.
 
 use generate::{Generator, Size};
-use plain::worked_run;
+use plain::{worked_run, Edition};
 
 use crate::compiled::Program;
 use crate::header::macro_of;
 
 /// Refused at once, small, and every section at its limit.
-fn sheets() -> Vec<Vec<u8>> {
-    let mut generator = Generator::new(5);
-    let full = (0..8).map(|_| generator.valid(Size::Full).encode());
-    let others = [Vec::new(), worked_run::SHEET.to_vec()];
+fn sheets(edition: Edition) -> Vec<Vec<u8>> {
+    let mut generator = Generator::of(edition, 5);
+    let full = (0..8).map(|_| generator.valid(Size::Full).encode(edition));
+    let others = [Vec::new(), worked_run::sheet().encode(edition)];
     others.into_iter().chain(full).collect()
 }
 
@@ -21,9 +21,9 @@ fn used(program: &Program, arguments: &[&str], sheet: &[u8]) -> u32 {
     printed.trim().parse().expect("it prints a number")
 }
 
-/// The most that it uses over the sheets.
-fn most_used(program: &Program, arguments: &[&str]) -> u32 {
-    let used = sheets()
+/// The most that it uses over the sheets of its edition.
+fn most_used(program: &Program, edition: Edition, arguments: &[&str]) -> u32 {
+    let used = sheets(edition)
         .into_iter()
         .map(|sheet| used(program, arguments, &sheet));
     used.max().expect("there are sheets")
@@ -52,8 +52,14 @@ fn stated(name: &str, used: u32) {
 #[test]
 fn the_stack_of_every_call() {
     let program = Program::new("stack");
-    stated("TIMING_CHECK_STACK", most_used(&program, &["check"]));
-    stated("TIMING_CHECK_STACK", most_used(&program, &["check_strict"]));
-    stated("TIMING_RUN_STACK", most_used(&program, &["run", "2000"]));
+    for (edition, check, check_strict, run) in [
+        (Edition::First, "check", "check_strict", "run"),
+        (Edition::Second, "check_2", "check_strict_2", "run_2"),
+    ] {
+        let most_used = |arguments: &[&str]| most_used(&program, edition, arguments);
+        stated("TIMING_CHECK_STACK", most_used(&[check]));
+        stated("TIMING_CHECK_STACK", most_used(&[check_strict]));
+        stated("TIMING_RUN_STACK", most_used(&[run, "2000"]));
+    }
     stated("TIMING_DESCRIBE_STACK", most_described(&program));
 }

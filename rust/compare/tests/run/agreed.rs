@@ -4,7 +4,7 @@ use compare::{hex, Lent};
 use generate::limits::RECORD_BYTES;
 use generate::room_for_all;
 use generate::sheets::{records, Record};
-use plain::Sheet;
+use plain::{Edition, Sheet};
 
 /// A run's answer and the records that it wrote.
 #[derive(Debug, Clone, PartialEq, Eq)]
@@ -15,16 +15,22 @@ pub struct Outcome {
 
 /// The run by the proved library, which must leave every byte past its records alone, also those
 /// around the lent ones.
-pub fn proved(sheet: &[u8], horizon: u32, length: usize, whence: &str) -> Outcome {
+pub fn proved(
+    edition: Edition,
+    sheet: &[u8],
+    horizon: u32,
+    length: usize,
+    whence: &str,
+) -> Outcome {
     let mut lent = Lent::new(length);
-    let answer = compare::run(sheet, horizon, lent.lent());
+    let answer = compare::run(edition, sheet, horizon, lent.lent());
     outcome(answer, &lent, whence)
 }
 
 /// The run by the plain simulator.
-pub fn plain(sheet: &[u8], horizon: u32, length: usize, whence: &str) -> Outcome {
+pub fn plain(edition: Edition, sheet: &[u8], horizon: u32, length: usize, whence: &str) -> Outcome {
     let mut lent = Lent::new(length);
-    let answer = plain::run(sheet, horizon, lent.lent()).triple();
+    let answer = plain::run(edition, sheet, horizon, lent.lent()).triple();
     outcome(answer, &lent, whence)
 }
 
@@ -39,12 +45,18 @@ fn outcome(answer: [u32; 3], lent: &Lent, whence: &str) -> Outcome {
 }
 
 /// Asserts that both give the same answer and leave the same bytes, and gives them.
-pub fn agreed(sheet: &[u8], horizon: u32, length: usize, whence: &str) -> Outcome {
-    let proved = proved(sheet, horizon, length, whence);
-    let plain = plain(sheet, horizon, length, whence);
+pub fn agreed(
+    edition: Edition,
+    sheet: &[u8],
+    horizon: u32,
+    length: usize,
+    whence: &str,
+) -> Outcome {
+    let proved = proved(edition, sheet, horizon, length, whence);
+    let plain = plain(edition, sheet, horizon, length, whence);
     assert!(
         proved == plain,
-        "{whence}: proved {:?}, plain {:?}, first difference at byte {:?}: {length} bytes, \
+        "{edition:?}, {whence}: proved {:?}, plain {:?}, first difference at byte {:?}: {length} bytes, \
          horizon {horizon}, sheet {}",
         proved.answer,
         plain.answer,
@@ -55,12 +67,20 @@ pub fn agreed(sheet: &[u8], horizon: u32, length: usize, whence: &str) -> Outcom
 }
 
 /// The records of a run on which both agree and which must finish.
-pub fn listed(sheet: &Sheet, horizon: u32, whence: &str) -> Vec<Record> {
-    let bytes = sheet.encode();
-    let outcome = agreed(&bytes, horizon, room_for_all(&bytes, horizon), whence);
+pub fn listed_in(edition: Edition, sheet: &Sheet, horizon: u32, whence: &str) -> Vec<Record> {
+    let bytes = sheet.encode(edition);
+    let room = room_for_all(edition, &bytes, horizon);
+    let outcome = agreed(edition, &bytes, horizon, room, whence);
     let records = records(&outcome.listing);
     assert_eq!(outcome.answer, [0, 0, records.len() as u32], "{whence}");
     records
+}
+
+/// The records of a sheet without third inputs, which every edition must list.
+pub fn listed(sheet: &Sheet, horizon: u32, whence: &str) -> Vec<Record> {
+    let [first, second] = Edition::ALL.map(|edition| listed_in(edition, sheet, horizon, whence));
+    assert_eq!(first, second, "{whence}");
+    first
 }
 
 fn first_difference(one: &[u8], other: &[u8]) -> Option<usize> {

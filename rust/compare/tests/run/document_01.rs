@@ -2,13 +2,19 @@
 
 use generate::every;
 use generate::sheets::*;
-use plain::{worked_run, HIGH, INPUT, LOW, UNKNOWN};
+use plain::{worked_run, Edition, HIGH, INPUT, LOW, UNKNOWN};
 
-use crate::agreed::{agreed, listed, Outcome};
+use crate::agreed::{agreed, listed, listed_in, Outcome};
 
 fn worked(length: usize) -> Outcome {
     let whence = format!("the worked run in {length} bytes");
-    agreed(worked_run::SHEET, worked_run::HORIZON, length, &whence)
+    agreed(
+        Edition::First,
+        worked_run::SHEET,
+        worked_run::HORIZON,
+        length,
+        &whence,
+    )
 }
 
 #[test]
@@ -50,8 +56,10 @@ fn an_inverter_onto_its_own_input() {
     let with_delay = |delay| sheet(&[LOW], &[gate(INVERTER, [0, 0], 0, delay)], &[], &[0]);
     let toggles = [(0, 0, 0, 1), (1, 0, 1, 2), (2, 0, 0, 3), (3, 0, 1, 4)];
     assert_eq!(listed(&with_delay(1), 4, "delay 1"), toggles);
-    let outcome = agreed(&with_delay(0).encode(), 4, 600, "delay 0");
-    assert_eq!(outcome.answer, [18, 0, 0]);
+    for edition in Edition::ALL {
+        let outcome = agreed(edition, &with_delay(0).encode(edition), 4, 600, "delay 0");
+        assert_eq!(outcome.answer, [18, 0, 0]);
+    }
 }
 
 /// The gates' examples, each as a zero-delay module over two inputs. The clocked inverter's are
@@ -85,19 +93,66 @@ fn values(records: &[Record], node: u8, horizon: u32) -> Vec<u8> {
     (0..horizon).map(latest).collect()
 }
 
-/// Every kind at every pair of values, and the clocked inverter's as document 02's W-202 has them.
+/// What a gate of a kind gives for every pair of values, in the second edition for every triple.
+fn shown(edition: Edition, kind: u8, delay: u16) -> Vec<u8> {
+    let horizon = every::combinations(edition) + u32::from(delay);
+    let gates = every::gates(edition, delay);
+    let records = listed_in(edition, &gates, horizon, "every value");
+    let node = every::output_of(edition, kind);
+    values(&records, node, horizon)[delay.into()..].to_vec()
+}
+
+fn every_value_at_every_gate(edition: Edition, delay: u16) {
+    for kind in every::gate_kinds(edition) {
+        let used = gate(kind, [], 0, 0).input_count();
+        let rule = |tick| plain::rule(kind, 0, &every::values(edition, tick)[..used]);
+        let expected: Vec<u8> = (0..every::combinations(edition)).map(rule).collect();
+        let shown = shown(edition, kind, delay);
+        assert_eq!(shown, expected, "{edition:?}, kind {kind}, delay {delay}");
+    }
+}
+
 #[test]
 fn every_pair_of_values_at_every_gate() {
-    let clocked = [3, 1, 2, 2, 3, 0, 2, 2, 3, 2, 2, 2, 3, 2, 2, 2];
     for delay in [0, 1, 5] {
-        let horizon = every::PAIRS + u32::from(delay);
-        let records = listed(&every::gates(delay), horizon, "every pair");
-        let of_kind = |kind: u8| values(&records, kind + 1, horizon)[delay.into()..].to_vec();
-        for kind in BUFFER..=CLOCKED_INVERTER {
-            let rule = |pair: u8| plain::rule(kind, 0, pair / 4, pair % 4);
-            let expected: Vec<u8> = (0..every::PAIRS as u8).map(rule).collect();
-            assert_eq!(of_kind(kind), expected, "kind {kind}, delay {delay}");
-        }
-        assert_eq!(of_kind(CLOCKED_INVERTER), clocked, "delay {delay}");
+        every_value_at_every_gate(Edition::First, delay);
+    }
+}
+
+#[test]
+fn every_triple_of_values_at_every_gate() {
+    for delay in [0, 1, 5] {
+        every_value_at_every_gate(Edition::Second, delay);
+    }
+}
+
+/// The clocked inverter's table as document 02's W-202 has it, and the multiplexer's as W-205 has it: a
+/// row for each pair of the first and second input, 0 0, 0 1 and so on, a column for each third.
+#[test]
+fn tables_written_out() {
+    let clocked = [3, 1, 2, 2, 3, 0, 2, 2, 3, 2, 2, 2, 3, 2, 2, 2];
+    let multiplexer = [
+        [0, 0, 0, 0],
+        [0, 1, 2, 2],
+        [0, 2, 2, 2],
+        [0, 2, 2, 2],
+        [1, 0, 2, 2],
+        [1, 1, 1, 1],
+        [1, 2, 2, 2],
+        [1, 2, 2, 2],
+        [2, 0, 2, 2],
+        [2, 1, 2, 2],
+        [2, 2, 2, 2],
+        [2, 2, 2, 2],
+        [2, 0, 2, 2],
+        [2, 1, 2, 2],
+        [2, 2, 2, 2],
+        [2, 2, 2, 2],
+    ];
+    for delay in [0, 1, 5] {
+        let of_two = shown(Edition::First, CLOCKED_INVERTER, delay);
+        assert_eq!(of_two, clocked, "delay {delay}");
+        let of_three = shown(Edition::Second, MULTIPLEXER, delay);
+        assert_eq!(of_three, multiplexer.as_flattened(), "delay {delay}");
     }
 }

@@ -170,13 +170,14 @@ impl<'a> Simulator<'a> {
     /// What the module comes to over the present values.
     fn result(&mut self, module: usize) -> u8 {
         let m = &self.sheet.modules[module];
-        let [first, second] = [m.first, m.second].map(|node| self.present[usize::from(node)]);
-        let value = if m.kind != MEMORY {
-            rule(m.kind, m.parameter, first, second)
-        } else if in_set(m.parameter, second) {
-            first
-        } else {
-            self.last[module]
+        let used = m.used_inputs();
+        let values: Vec<u8> = used.map(|node| self.present[usize::from(node)]).collect();
+        let value = match values[..] {
+            [first, second] if m.kind == MEMORY => match in_set(m.parameter, second) {
+                true => first,
+                false => self.last[module],
+            },
+            _ => rule(m.kind, m.parameter, &values),
         };
         self.last[module] = value;
         value

@@ -5,7 +5,7 @@ use generate::ends::ended;
 use generate::shared::memory_after_gates;
 use generate::sheets::*;
 use generate::{room_for_all, Generator, RunInput};
-use plain::{read, renumbered, Sheet, HIGH, INPUT, LOW, UNKNOWN};
+use plain::{read, renumbered, Edition, Sheet, HIGH, INPUT, LOW, UNKNOWN};
 
 use crate::agreed::{listed, plain};
 use crate::event_driven::{listing, Fault, FAULTS};
@@ -80,34 +80,44 @@ fn a_memory_catches_a_passing_value_inside_a_tick() {
 }
 
 /// A generated sheet that runs to a short horizon, and its records.
-fn finished(generator: &mut Generator) -> (Sheet, u32, Vec<Record>) {
+fn finished(edition: Edition, generator: &mut Generator) -> (Sheet, u32, Vec<Record>) {
     loop {
         let RunInput { sheet, horizon } = generator.run_input();
         if !(1..=200).contains(&horizon) {
             continue;
         }
-        let outcome = plain(&sheet, horizon, room_for_all(&sheet, horizon), "a fault");
-        if let (0, Ok(read)) = (outcome.answer[0], read(&sheet)) {
+        let room = room_for_all(edition, &sheet, horizon);
+        let outcome = plain(edition, &sheet, horizon, room, "a fault");
+        if let (0, Ok(read)) = (outcome.answer[0], read(edition, &sheet)) {
             return (read, horizon, records(&outcome.listing));
         }
     }
 }
 
 /// The generated sheets show every fault many times over, and a simulator without one has none.
-#[test]
-fn generated_sheets_show_every_fault() {
+fn every_fault_is_shown(edition: Edition) {
     let seed = 9;
-    let mut generator = Generator::new(seed);
+    let mut generator = Generator::of(edition, seed);
     let mut shown = [0; FAULTS.len()];
     let sheets = 4_000;
     for place in 0..sheets {
-        let (sheet, horizon, right) = finished(&mut generator);
+        let (sheet, horizon, right) = finished(edition, &mut generator);
         let without = listing(&sheet, horizon, None);
         assert_eq!(without, right, "seed {seed}, sheet {place}: {sheet:?}");
         for (count, fault) in shown.iter_mut().zip(FAULTS) {
             *count += u32::from(listing(&sheet, horizon, Some(fault)) != right);
         }
     }
-    println!("of {sheets} sheets each of {FAULTS:?} is shown by {shown:?}");
+    println!("{edition:?}: of {sheets} sheets each of {FAULTS:?} is shown by {shown:?}");
     assert!(shown.iter().all(|&n| n >= 10), "{shown:?}");
+}
+
+#[test]
+fn generated_sheets_show_every_fault() {
+    every_fault_is_shown(Edition::First);
+}
+
+#[test]
+fn generated_sheets_of_the_second_edition_show_every_fault() {
+    every_fault_is_shown(Edition::Second);
 }

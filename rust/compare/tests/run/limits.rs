@@ -3,12 +3,18 @@
 use generate::limits::RECORD_BYTES;
 use generate::shared::{four_buffers, toggled};
 use generate::sheets::*;
-use plain::{worked_run, Sheet, HIGH, INPUT, LOW, UNKNOWN};
+use plain::{worked_run, Edition, Sheet, HIGH, INPUT, LOW, UNKNOWN};
 
 use crate::agreed::{agreed, Outcome};
 
+/// A run of a sheet without third inputs, which is the same in every edition.
 fn run(sheet: &Sheet, horizon: u32, length: usize) -> Outcome {
-    agreed(&sheet.encode(), horizon, length, "at a limit")
+    let [first, second] = Edition::ALL.map(|edition| {
+        let bytes = sheet.encode(edition);
+        agreed(edition, &bytes, horizon, length, "at a limit")
+    });
+    assert!(first == second, "{sheet:?}");
+    first
 }
 
 #[test]
@@ -88,7 +94,7 @@ fn many_modules_with_changes_pending() {
 #[test]
 fn the_last_horizon() {
     let length = RECORD_BYTES * 333_335;
-    let run_to = |horizon| agreed(worked_run::SHEET, horizon, length, "the last horizon");
+    let run_to = |horizon| run(&worked_run::sheet(), horizon, length);
     // From tick 8 on the NAND changes every third tick: 333,330 more times up to tick 999,998.
     let Outcome { answer, listing } = run_to(1_000_000);
     assert_eq!(answer, [0, 0, 333_335]);
@@ -129,6 +135,28 @@ fn a_memory_up_to_the_last_horizon() {
     let Outcome { answer, listing } = run(&sheet, 1_000_000, RECORD_BYTES * 1_000_000);
     assert_eq!(answer[0], 0);
     assert!(records(&listing).len() > 400_000);
+}
+
+/// So many multiplexers of one delay that choose an oscillator by itself, and so follow it.
+fn star_of_multiplexers(multiplexers: u8, delay: u16) -> Sheet {
+    let mut modules = vec![gate(INVERTER, [0], 0, 1)];
+    modules.extend((1..=multiplexers).map(|output| gate(MULTIPLEXER, [0, 0, 0], output, delay)));
+    sheet(&vec![LOW; modules.len()], &modules, &[], &[0])
+}
+
+/// As many changes are pending as with buffers.
+#[test]
+fn multiplexers_with_changes_pending() {
+    let answer = |multiplexers, delay, horizon| {
+        let sheet = star_of_multiplexers(multiplexers, delay);
+        let bytes = sheet.encode(Edition::Second);
+        let length = RECORD_BYTES * horizon as usize;
+        agreed(Edition::Second, &bytes, horizon, length, "multiplexers").answer
+    };
+    assert_eq!(answer(255, 16, 100), [0, 0, 100]);
+    assert_eq!(answer(255, 17, 100), [20, 17, 18]);
+    assert_eq!(answer(15, 273, 900), [0, 0, 900]);
+    assert_eq!(answer(15, 274, 900), [20, 274, 275]);
 }
 
 #[test]

@@ -11,4 +11,5 @@ mod limits;
 mod reading;
 mod renumbered;
 mod start;
+mod three_inputs;
 mod vectors;

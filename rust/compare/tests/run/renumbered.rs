@@ -3,7 +3,7 @@
 use compare::{count, seed};
 use generate::sheets::*;
 use generate::{room_for_all, Generator, Size};
-use plain::{read, renumbered, renumbered_listing, Sheet, INPUT, LOW, UNKNOWN};
+use plain::{read, renumbered, renumbered_listing, Edition, Module, Sheet, INPUT, LOW, UNKNOWN};
 
 use crate::agreed::proved;
 
@@ -30,11 +30,11 @@ impl Met {
 }
 
 /// An accepted sheet and a horizon at which it can be run quickly.
-fn accepted(generator: &mut Generator) -> (Sheet, u32) {
+fn accepted(edition: Edition, generator: &mut Generator) -> (Sheet, u32) {
     loop {
         let input = generator.run_input();
         let in_range = (1..=10_000).contains(&input.horizon);
-        if let (true, Ok(sheet)) = (in_range, read(&input.sheet)) {
+        if let (true, Ok(sheet)) = (in_range, read(edition, &input.sheet)) {
             return (sheet, input.horizon);
         }
     }
@@ -42,6 +42,7 @@ fn accepted(generator: &mut Generator) -> (Sheet, u32) {
 
 /// A sheet N, and how P is made from it.
 struct Renumbering<'a> {
+    edition: Edition,
     sheet: &'a Sheet,
     /// The new number of each node.
     to: Vec<u8>,
@@ -54,10 +55,17 @@ impl Renumbering<'_> {
     /// renumbered and sorted again. This holds for the records that 19 and 20 leave, too, for
     /// both end at the same tick. Gives the number of the answer, and whether the listing moved.
     fn run_alike(&self, horizon: u32, length: usize, whence: &str) -> (u32, bool) {
-        let other = renumbered(self.sheet, &self.to, &self.order);
-        let n = proved(&self.sheet.encode(), horizon, length, whence);
-        let p = proved(&other.encode(), horizon, length, whence);
-        let Renumbering { sheet, to, order } = self;
+        let Renumbering {
+            edition,
+            sheet,
+            to,
+            order,
+        } = self;
+        let other = renumbered(sheet, to, order);
+        let [n, p] = [*sheet, &other].map(|sheet| {
+            let bytes = sheet.encode(*edition);
+            proved(*edition, &bytes, horizon, length, whence)
+        });
         assert_eq!(n.answer, p.answer, "{whence}: {sheet:?} {to:?} {order:?}");
         let expected = renumbered_listing(&n.listing, to);
         assert_eq!(p.listing, expected, "{whence}: {sheet:?} {to:?} {order:?}");
@@ -66,13 +74,20 @@ impl Renumbering<'_> {
 }
 
 /// A random renumbering, run alike in a buffer of some sort.
-fn run_alike(generator: &mut Generator, sheet: &Sheet, horizon: u32, whence: &str) -> (u32, bool) {
-    let bytes = sheet.encode();
-    let whole = room_for_all(&bytes, horizon);
-    let [.., records] = proved(&bytes, horizon, whole, whence).answer;
+fn run_alike(
+    edition: Edition,
+    generator: &mut Generator,
+    sheet: &Sheet,
+    horizon: u32,
+    whence: &str,
+) -> (u32, bool) {
+    let bytes = sheet.encode(edition);
+    let whole = room_for_all(edition, &bytes, horizon);
+    let [.., records] = proved(edition, &bytes, horizon, whole, whence).answer;
     let room = generator.room();
     let length = generator.bytes_of(room, records as usize);
     let renumbering = Renumbering {
+        edition,
         sheet,
         to: generator.permutation(sheet.nodes.len()),
         order: generator.order(sheet.modules.len()),
@@ -80,34 +95,45 @@ fn run_alike(generator: &mut Generator, sheet: &Sheet, horizon: u32, whence: &st
     renumbering.run_alike(horizon, length, whence)
 }
 
-#[test]
-fn generated_sheets_renumbered() {
+fn generated(edition: Edition) {
     let seed = seed();
-    let mut generator = Generator::new(seed);
+    let mut generator = Generator::of(edition, seed);
     let mut met = Met::default();
     for place in 0..count(30_000) {
-        let (sheet, horizon) = accepted(&mut generator);
-        let whence = format!("seed {seed}, sheet {place}");
-        let (number, has_moved) = run_alike(&mut generator, &sheet, horizon, &whence);
+        let (sheet, horizon) = accepted(edition, &mut generator);
+        let whence = format!("{edition:?}, seed {seed}, sheet {place}");
+        let (number, has_moved) = run_alike(edition, &mut generator, &sheet, horizon, &whence);
         met.add(number, has_moved);
     }
-    println!("seed {seed}: {met:?}");
+    println!("{edition:?}, seed {seed}: {met:?}");
     assert!(met.finished >= 10_000, "seed {seed}: {met:?}");
     assert!(met.full_buffers >= 1_000, "seed {seed}: {met:?}");
     assert!(met.crowded >= 100, "seed {seed}: {met:?}");
     assert!(met.moved >= 10_000, "seed {seed}: {met:?}");
 }
 
+#[test]
+fn generated_sheets_renumbered() {
+    generated(Edition::First);
+}
+
+#[test]
+fn generated_sheets_of_the_second_edition_renumbered() {
+    generated(Edition::Second);
+}
+
 /// One sheet of each size, in many orders.
 #[test]
 fn many_orders_of_one_sheet() {
     let seed = 6;
-    let mut generator = Generator::new(seed);
-    for size in [Size::Small, Size::Medium, Size::Large, Size::Full] {
-        let sheet = generator.valid(size);
-        for place in 0..50 {
-            let whence = format!("seed {seed}, {size:?}, order {place}");
-            run_alike(&mut generator, &sheet, 60, &whence);
+    for edition in Edition::ALL {
+        let mut generator = Generator::of(edition, seed);
+        for size in [Size::Small, Size::Medium, Size::Large, Size::Full] {
+            let sheet = generator.valid(size);
+            for place in 0..50 {
+                let whence = format!("{edition:?}, seed {seed}, {size:?}, order {place}");
+                run_alike(edition, &mut generator, &sheet, 60, &whence);
+            }
         }
     }
 }
@@ -128,8 +154,33 @@ fn permutations(length: usize) -> Vec<Vec<usize>> {
     shorter.flat_map(with_last).collect()
 }
 
-/// Gates and a memory without delay, one after the other, and a delayed gate back to the first:
-/// every numbering of the nodes with every listed order of the modules.
+/// Four modules over one input, every node watched: every numbering of the nodes with every listed order
+/// of the modules.
+fn every_renumbering(edition: Edition, modules: [Module; 4]) {
+    let drive = [(0, 0, 0), (4, 0, 1), (8, 0, 0), (9, 0, 1)];
+    let nodes = [INPUT, LOW, LOW, UNKNOWN, LOW];
+    let sheet = sheet(&nodes, &modules, &drive, &[0, 1, 2, 3, 4]);
+    let length = room_for_all(edition, &sheet.encode(edition), 20);
+    let mut moved = 0;
+    for to in permutations(nodes.len()) {
+        let to: Vec<u8> = to.into_iter().map(|number| number as u8).collect();
+        for order in permutations(modules.len()) {
+            let renumbering = Renumbering {
+                edition,
+                sheet: &sheet,
+                to: to.clone(),
+                order,
+            };
+            let (number, has_moved) = renumbering.run_alike(20, length, "every renumbering");
+            assert_eq!(number, 0);
+            moved += u32::from(has_moved);
+        }
+    }
+    // No two nodes have the same cells, so only one numbering leaves the listing as it is.
+    assert_eq!(moved, (120 - 1) * 24);
+}
+
+/// Gates and a memory without delay, one after the other, and a delayed gate back to the first.
 #[test]
 fn every_renumbering_of_one_sheet() {
     let modules = [
@@ -138,22 +189,19 @@ fn every_renumbering_of_one_sheet() {
         memory(0b0010, [0, 2], 3, 0),
         gate(NAND, [3, 0], 4, 2),
     ];
-    let drive = [(0, 0, 0), (4, 0, 1), (8, 0, 0), (9, 0, 1)];
-    let nodes = [INPUT, LOW, LOW, UNKNOWN, LOW];
-    let sheet = sheet(&nodes, &modules, &drive, &[0, 1, 2, 3, 4]);
-    let length = room_for_all(&sheet.encode(), 20);
-    let mut moved = 0;
-    for to in permutations(nodes.len()) {
-        let to: Vec<u8> = to.into_iter().map(|number| number as u8).collect();
-        for order in permutations(modules.len()) {
-            let to = to.clone();
-            let sheet = &sheet;
-            let renumbering = Renumbering { sheet, to, order };
-            let (number, has_moved) = renumbering.run_alike(20, length, "every renumbering");
-            assert_eq!(number, 0);
-            moved += u32::from(has_moved);
-        }
+    for edition in Edition::ALL {
+        every_renumbering(edition, modules);
     }
-    // No two nodes have the same cells, so only one numbering leaves the listing as it is.
-    assert_eq!(moved, (120 - 1) * 24);
+}
+
+/// The same with gates of three inputs: without delay, third inputs alone say what comes first.
+#[test]
+fn every_renumbering_by_third_inputs() {
+    let modules = [
+        gate(NOR_3, [0, 0, 4], 1, 0),
+        gate(OR_3, [4, 4, 1], 2, 0),
+        gate(MULTIPLEXER, [0, 4, 2], 3, 0),
+        gate(XOR_3, [0, 2, 3], 4, 2),
+    ];
+    every_renumbering(Edition::Second, modules);
 }

@@ -1,15 +1,16 @@
 //! A vector's call, by one simulator or the other.
 
 use compare::Lent;
+use plain::Edition;
 
 use crate::vector::{Outcome, Vector, UNTOUCHED};
 
 /// The calls that vectors name, each giving number, place and count.
 pub struct Simulator {
     pub name: &'static str,
-    check: fn(&[u8]) -> [u32; 3],
-    check_strict: fn(&[u8]) -> [u32; 3],
-    run: fn(&[u8], u32, &mut [u8]) -> [u32; 3],
+    check: fn(Edition, &[u8]) -> [u32; 3],
+    check_strict: fn(Edition, &[u8]) -> [u32; 3],
+    run: fn(Edition, &[u8], u32, &mut [u8]) -> [u32; 3],
 }
 
 pub const PROVED: Simulator = Simulator {
@@ -21,20 +22,26 @@ pub const PROVED: Simulator = Simulator {
 
 pub const PLAIN: Simulator = Simulator {
     name: "plain",
-    check: |sheet| plain::check(sheet).triple(),
-    check_strict: |sheet| plain::check_strict(sheet).triple(),
-    run: |sheet, horizon, listing| plain::run(sheet, horizon, listing).triple(),
+    check: |edition, sheet| plain::check(edition, sheet).triple(),
+    check_strict: |edition, sheet| plain::check_strict(edition, sheet).triple(),
+    run: |edition, sheet, horizon, listing| plain::run(edition, sheet, horizon, listing).triple(),
 };
 
 impl Simulator {
     pub fn outcome(&self, vector: &Vector) -> Outcome {
+        let Vector {
+            edition,
+            ref sheet,
+            horizon,
+            ..
+        } = *vector;
         match (vector.call, &vector.numbers[..]) {
-            ("check", []) => answered((self.check)(&vector.sheet)),
-            ("check_strict", []) => answered((self.check_strict)(&vector.sheet)),
+            ("check", []) => answered((self.check)(edition, sheet)),
+            ("check_strict", []) => answered((self.check_strict)(edition, sheet)),
             ("run", &[length]) => {
                 let length = length as usize;
                 let mut listing = untouched(length);
-                let answer = (self.run)(&vector.sheet, vector.horizon, listing.lent());
+                let answer = (self.run)(edition, sheet, horizon, listing.lent());
                 Outcome {
                     answer,
                     buffers: vec![left(&listing, length)],

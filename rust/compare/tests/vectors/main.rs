@@ -6,13 +6,18 @@ mod call;
 mod vector;
 
 use call::{PLAIN, PROVED};
+use plain::Edition;
 use vector::Vector;
 
 /// The requests up to W-204. Records have ends from there on, so no earlier file's runs hold.
 const AFTER_204: &str = include_str!("after-204.txt");
 
-/// Asserts that both simulators give every vector's outcome, and that there are so many of each call.
-fn hold(text: &str, calls: &[(&str, usize)]) {
+/// Those up to W-205, in both editions. What the file before says holds as well.
+const AFTER_205: &str = include_str!("after-205.txt");
+
+/// Asserts that both simulators give every vector's outcome, and that there are so many of each call in
+/// each edition.
+fn hold(text: &str, calls: &[(Edition, &str, usize)]) {
     let vectors = vector::all(text);
     for vector in &vectors {
         for simulator in [PROVED, PLAIN] {
@@ -21,18 +26,34 @@ fn hold(text: &str, calls: &[(&str, usize)]) {
             assert_eq!(&outcome, expected, "{}, line {line}", simulator.name);
         }
     }
-    for &(name, count) in calls {
-        let named = vectors.iter().filter(|vector| vector.call == name);
-        assert_eq!(named.count(), count, "{name}");
+    for &(edition, name, count) in calls {
+        let named = |vector: &&Vector| (vector.edition, vector.call) == (edition, name);
+        let found = vectors.iter().filter(named).count();
+        assert_eq!(found, count, "{edition:?}, {name}");
     }
-    let all = calls.iter().map(|&(_, count)| count);
+    let all = calls.iter().map(|&(.., count)| count);
     assert_eq!(vectors.len(), all.sum());
 }
 
 #[test]
 fn after_204() {
-    hold(
-        AFTER_204,
-        &[("check", 104), ("check_strict", 126), ("run", 133)],
-    );
+    let calls = [
+        (Edition::First, "check", 104),
+        (Edition::First, "check_strict", 126),
+        (Edition::First, "run", 133),
+    ];
+    hold(AFTER_204, &calls);
+}
+
+#[test]
+fn after_205() {
+    let calls = [
+        (Edition::First, "check", 107),
+        (Edition::First, "check_strict", 131),
+        (Edition::First, "run", 126),
+        (Edition::Second, "check", 106),
+        (Edition::Second, "check_strict", 128),
+        (Edition::Second, "run", 130),
+    ];
+    hold(AFTER_205, &calls);
 }

@@ -1,6 +1,8 @@
 //! A vector is a line, its fields divided by tabs: the sheet's edition, the call, its numbers, the
 //! horizon, the sheet, the answer, and each lent buffer.
 
+use plain::Edition;
+
 /// The byte that fills a buffer before the call. Those at its end are left out of a vector.
 pub const UNTOUCHED: u8 = 0xEE;
 
@@ -11,6 +13,7 @@ const NOTHING: &str = "-";
 pub struct Vector<'a> {
     /// Counted from 1.
     pub line: usize,
+    pub edition: Edition,
     pub call: &'a str,
     /// For a run, the bytes of the listing's buffer.
     pub numbers: Vec<u32>,
@@ -36,7 +39,11 @@ fn vector(line: usize, fields: &str) -> Vector<'_> {
     let [edition, call, given, horizon, sheet, answer, ref buffers @ ..] = fields[..] else {
         panic!("line {line} has {} fields", fields.len());
     };
-    assert_eq!(edition, "1", "line {line}: the edition");
+    let edition = match edition {
+        "1" => Edition::First,
+        "2" => Edition::Second,
+        _ => panic!("line {line}: edition {edition}"),
+    };
     let answer = numbers(answer).try_into();
     let expected = Outcome {
         answer: answer.unwrap_or_else(|answer| panic!("line {line}: {answer:?}")),
@@ -44,6 +51,7 @@ fn vector(line: usize, fields: &str) -> Vector<'_> {
     };
     Vector {
         line,
+        edition,
         call,
         numbers: numbers(given),
         horizon: number(horizon),

@@ -6,7 +6,7 @@ use generate::ends_by_hand;
 #[test]
 fn worked_out_by_hand() {
     for case in ends_by_hand::cases() {
-        let (answer, listing) = run(&case.sheet.encode(), case.horizon, case.bytes);
+        let (answer, listing) = run(&case.sheet.encode(Edition::First), case.horizon, case.bytes);
         assert_eq!(answer.triple(), case.answer, "{}", case.name);
         assert_eq!(written(answer, &listing), case.records, "{}", case.name);
     }
@@ -21,7 +21,7 @@ fn bytes_of_a_record() {
         &[(0x0304, 0, 3), (0x0A_0B0C, 0, 1)],
         &[0],
     );
-    let (_, listing) = run(&input.encode(), 1_000_000, 30);
+    let (_, listing) = run(&input.encode(Edition::First), 1_000_000, 30);
     assert_eq!(listing[..10], [0, 0, 0, 0, 0, 2, 0x04, 0x03, 0, 0]);
     assert_eq!(
         listing[10..20],

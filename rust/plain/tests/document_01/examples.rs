@@ -18,14 +18,20 @@ fn worked_run_is_read_as_stated() {
         &[(0, 0, 0), (5, 0, 1)],
         &[0, 1],
     );
-    assert_eq!(plain::read(worked_run::SHEET), Ok(expected.clone()));
-    assert_eq!(expected.encode(), worked_run::SHEET);
-    assert_eq!(plain::check(worked_run::SHEET), Answer::Ran { count: 0 });
+    assert_eq!(
+        plain::read(Edition::First, worked_run::SHEET),
+        Ok(expected.clone())
+    );
+    assert_eq!(expected.encode(Edition::First), worked_run::SHEET);
+    assert_eq!(
+        plain::check(Edition::First, worked_run::SHEET),
+        Answer::Ran { count: 0 }
+    );
 }
 
 #[test]
 fn worked_run_has_the_stated_cells() {
-    let sheet = plain::read(worked_run::SHEET).unwrap();
+    let sheet = worked_run::sheet();
     let cells = plain::cells(&sheet, worked_run::HORIZON);
     assert_eq!(cells[1][2], UNKNOWN);
     assert_eq!(cells[1][7], HIGH);
@@ -55,7 +61,10 @@ fn memory_takes_what_stands_when_its_set_is_met() {
     let drive = [(0, 0, 0), (0, 1, 0), (4, 0, 1), (4, 1, 1)];
     let memory = memory(0b0010, [0, 1], 2, 1);
     let sheet = sheet(&[INPUT, INPUT, UNKNOWN], &[memory], &drive, &[2]);
-    let cells = plain::cells(&plain::read(&sheet.encode()).unwrap(), 8);
+    let cells = plain::cells(
+        &plain::read(Edition::First, &sheet.encode(Edition::First)).unwrap(),
+        8,
+    );
     assert_eq!(cells[2], [2, 2, 2, 2, 2, 1, 1, 1]);
 }
 
@@ -81,7 +90,7 @@ fn delay_at_its_limit() {
         [(0, 1, UNKNOWN, 10_000), (10_000, 1, HIGH, 10_001)]
     );
     // The module stands after two counts and two nodes.
-    let (answer, _) = run(&delayed_by(10_001).encode(), 10_002, 60);
+    let (answer, _) = run(&delayed_by(10_001).encode(Edition::First), 10_002, 60);
     assert_eq!(answer.triple(), [8, 6, 0]);
 }
 
@@ -92,7 +101,7 @@ fn inverter_onto_its_own_input() {
         listed(&with_delay(1), 4),
         [(0, 0, 0, 1), (1, 0, 1, 2), (2, 0, 0, 3), (3, 0, 1, 4)]
     );
-    let (answer, listing) = run(&with_delay(0).encode(), 4, 60);
+    let (answer, listing) = run(&with_delay(0).encode(Edition::First), 4, 60);
     assert_eq!(answer.triple(), [18, 0, 0]);
     assert_eq!(listing, [UNTOUCHED; 60]);
 }

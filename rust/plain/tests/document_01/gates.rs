@@ -5,11 +5,11 @@ use plain::{rule, HIGH, LOW, NONE, UNKNOWN};
 
 #[test]
 fn examples_of_document_01() {
-    assert_eq!(rule(NAND, 0, LOW, NONE), HIGH);
-    assert_eq!(rule(AND, 0, HIGH, NONE), UNKNOWN);
-    assert_eq!(rule(OR, 0, HIGH, NONE), HIGH);
-    assert_eq!(rule(XOR, 0, UNKNOWN, UNKNOWN), UNKNOWN);
-    assert_eq!(rule(INVERTER, 0, NONE, LOW), UNKNOWN);
+    assert_eq!(rule(NAND, 0, &[LOW, NONE]), HIGH);
+    assert_eq!(rule(AND, 0, &[HIGH, NONE]), UNKNOWN);
+    assert_eq!(rule(OR, 0, &[HIGH, NONE]), HIGH);
+    assert_eq!(rule(XOR, 0, &[UNKNOWN, UNKNOWN]), UNKNOWN);
+    assert_eq!(rule(INVERTER, 0, &[NONE]), UNKNOWN);
 }
 
 /// Document 02, W-202: the inverter of the first input for clock 1, Z for clock 0, and X for clock
@@ -17,8 +17,8 @@ fn examples_of_document_01() {
 #[test]
 fn every_clock() {
     for value in [LOW, HIGH, UNKNOWN, NONE] {
-        let at = |clock| rule(CLOCKED_INVERTER, 0, value, clock);
-        assert_eq!(at(HIGH), rule(INVERTER, 0, value, LOW));
+        let at = |clock| rule(CLOCKED_INVERTER, 0, &[value, clock]);
+        assert_eq!(at(HIGH), rule(INVERTER, 0, &[value]));
         assert_eq!(at(LOW), NONE);
         assert_eq!(at(UNKNOWN), UNKNOWN);
         assert_eq!(at(NONE), UNKNOWN);
@@ -55,7 +55,7 @@ fn two_inputs_as_tables() {
     for (kind, table) in TABLES {
         for (first, row) in (0..).zip(table) {
             for (second, expected) in (0..).zip(row) {
-                let value = rule(kind, 0, first, second);
+                let value = rule(kind, 0, &[first, second]);
                 assert_eq!(value, expected, "kind {kind} of {first} and {second}");
             }
         }
@@ -64,13 +64,11 @@ fn two_inputs_as_tables() {
 
 #[test]
 fn one_input_and_none() {
-    for other in 0..4 {
-        let of_each = |kind| [0, 1, 2, 3].map(|value| rule(kind, 0, value, other));
-        assert_eq!(of_each(BUFFER), [0, 1, 2, 2]);
-        assert_eq!(of_each(INVERTER), [1, 0, 2, 2]);
-        for value in 0..4 {
-            assert_eq!(rule(CONSTANT, value, other, other), value);
-        }
+    let of_each = |kind| [0, 1, 2, 3].map(|value| rule(kind, 0, &[value]));
+    assert_eq!(of_each(BUFFER), [0, 1, 2, 2]);
+    assert_eq!(of_each(INVERTER), [1, 0, 2, 2]);
+    for value in 0..4 {
+        assert_eq!(rule(CONSTANT, value, &[]), value);
     }
 }
 

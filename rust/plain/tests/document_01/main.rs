@@ -9,5 +9,7 @@ mod memory;
 mod program;
 mod refusals;
 mod renumbering;
+mod second_edition;
 mod start;
 mod support;
+mod three_inputs;

@@ -16,7 +16,11 @@ fn over(control: [u8; 8], set: u8, delay: u16) -> Sheet {
 }
 
 fn memory_cells(control: [u8; 8], set: u8, delay: u16) -> Vec<u8> {
-    let sheet = plain::read(&over(control, set, delay).encode()).unwrap();
+    let sheet = plain::read(
+        Edition::First,
+        &over(control, set, delay).encode(Edition::First),
+    )
+    .unwrap();
     plain::cells(&sheet, 8)[2].clone()
 }
 

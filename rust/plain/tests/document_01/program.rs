@@ -45,7 +45,7 @@ fn a_refusal_prints_its_sentence_alone() {
 #[test]
 fn every_value_has_its_symbol() {
     let drive = [(0, 0, 0), (10, 0, 1), (200, 0, 2), (3_000, 0, 3)];
-    let sheet = sheet(&[INPUT], &[], &drive, &[0]).encode();
+    let sheet = sheet(&[INPUT], &[], &drive, &[0]).encode(Edition::First);
     let expected =
         "finished, with a count of 4\n0 0 0 10\n10 0 1 200\n200 0 X 3000\n3000 0 Z 1000000\n";
     assert_eq!(printed_for(1_000_000, &sheet), expected);
@@ -53,13 +53,13 @@ fn every_value_has_its_symbol() {
 
 #[test]
 fn no_records() {
-    let sheet = sheet(&[INPUT], &[], &[(0, 0, 1)], &[]).encode();
+    let sheet = sheet(&[INPUT], &[], &[(0, 0, 1)], &[]).encode(Edition::First);
     assert_eq!(printed_for(5, &sheet), "finished, with a count of 0\n");
 }
 
 #[test]
 fn six_thousand_records_are_lent_room() {
-    let ring = sheet(&[LOW], &[gate(INVERTER, [0, 0], 0, 1)], &[], &[0]).encode();
+    let ring = sheet(&[LOW], &[gate(INVERTER, [0, 0], 0, 1)], &[], &[0]).encode(Edition::First);
     let full = printed_for(MOST_PRINTED, &ring);
     assert!(full.starts_with("finished, with a count of 6000\n0 0 0 1\n1 0 1 2\n"));
     assert!(full.ends_with("\n5999 0 1 6000\n"));
@@ -75,7 +75,7 @@ fn longest() -> Vec<u8> {
     let modules: Vec<_> = (1..=255).map(|output| constant(LOW, output, 0)).collect();
     let drive: Vec<_> = (0..1_024).map(|tick| (tick, 0, 0)).collect();
     let watched: Vec<_> = (0..=255).collect();
-    sheet(&nodes, &modules, &drive, &watched).encode()
+    sheet(&nodes, &modules, &drive, &watched).encode(Edition::First)
 }
 
 #[test]

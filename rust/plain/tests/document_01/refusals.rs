@@ -10,7 +10,7 @@ fn pending_4096_passes() {
     let sheet = toggled(&four_buffers());
     let cells = plain::cells(&sheet, 10_000);
     assert_eq!(plain::pending(&sheet, &cells).iter().max(), Some(&4_096));
-    let (answer, _) = run(&sheet.encode(), 10_000, 60_000);
+    let (answer, _) = run(&sheet.encode(Edition::First), 10_000, 60_000);
     assert_eq!(answer, Answer::Ran { count: 1_024 });
 }
 
@@ -18,7 +18,7 @@ fn pending_4096_passes() {
 fn pending_4097_does_not() {
     let mut modules = four_buffers();
     modules.push(constant(HIGH, 5, 5_000));
-    let (answer, listing) = run(&toggled(&modules).encode(), 10_000, 60_000);
+    let (answer, listing) = run(&toggled(&modules).encode(Edition::First), 10_000, 60_000);
     assert_eq!(answer.triple(), [20, 1_023, 1_024]);
     // The records of the refused tick itself are there.
     let records = written(answer, &listing);
@@ -29,7 +29,7 @@ fn pending_4097_does_not() {
 /// buffer after it with as many pending as its delay has ticks.
 fn ring_and_buffer(delay: u16) -> Vec<u8> {
     let modules = [gate(INVERTER, [0, 0], 0, 1), gate(BUFFER, [0, 0], 1, delay)];
-    sheet(&[LOW, LOW], &modules, &[], &[]).encode()
+    sheet(&[LOW, LOW], &modules, &[], &[]).encode(Edition::First)
 }
 
 #[test]
@@ -61,7 +61,7 @@ fn zero_delay_leaves_nothing_pending() {
 fn full_buffer_comes_before_pending() {
     let mut modules = four_buffers();
     modules.push(constant(HIGH, 5, 5_000));
-    let bytes = toggled(&modules).encode();
+    let bytes = toggled(&modules).encode(Edition::First);
     // Tick 1,023 meets both conditions; its record is the 1,024th.
     let (answer, _) = run(&bytes, 10_000, RECORD_BYTES * 1_023);
     assert_eq!(answer.triple(), [19, 1_023, 1_023]);

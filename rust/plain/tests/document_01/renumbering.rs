@@ -44,7 +44,7 @@ fn a_listing_is_sorted_again() {
         (7, 2, 0),
     ];
     let original = sheet(&[INPUT; 3], &[], &drive, &[0, 1, 2]);
-    let (answer, listing) = run(&original.encode(), 9, 6 * RECORD_BYTES);
+    let (answer, listing) = run(&original.encode(Edition::First), 9, 6 * RECORD_BYTES);
     assert_eq!(answer, Answer::Ran { count: 6 });
     let whole = [
         (0, 0, 1, 9),

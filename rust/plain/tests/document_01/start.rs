@@ -10,7 +10,10 @@ fn input(drive: &[Change]) -> Sheet {
 }
 
 fn cells(sheet: &Sheet, horizon: u32) -> Vec<Vec<u8>> {
-    plain::cells(&plain::read(&sheet.encode()).unwrap(), horizon)
+    plain::cells(
+        &plain::read(Edition::First, &sheet.encode(Edition::First)).unwrap(),
+        horizon,
+    )
 }
 
 #[test]
@@ -44,8 +47,12 @@ fn a_memory_and_a_gate_see_it() {
 #[test]
 fn a_strict_check_refuses_it_and_a_check_does_not() {
     let both = |sheet: &Sheet| {
-        let bytes = sheet.encode();
-        [plain::check(&bytes), plain::check_strict(&bytes)].map(Answer::triple)
+        let bytes = sheet.encode(Edition::First);
+        [
+            plain::check(Edition::First, &bytes),
+            plain::check_strict(Edition::First, &bytes),
+        ]
+        .map(Answer::triple)
     };
     assert_eq!(both(&unknown_at_first()), [[0, 0, 0], [15, 0, 0]]);
     let mut sheet = unknown_at_first();

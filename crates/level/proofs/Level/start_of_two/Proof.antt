@@ -1,7 +1,7 @@
 -- `level::Level::start_of_two` meets its contract. Assumes nothing.
 use native.Mathlib.Omega.{arith}
 use borrow.Author.Needs.{needs}
-use Rattle.level.proofs.Gates.{start-of-two}
+use Rattle.level.proofs.Gates.{of-two}
 use Rattle.level.proofs.Level.start_of_two.Statement.{statement}
 use Rattle.level.proofs.Level.start_of_two.Tie as tie
 
@@ -12,7 +12,7 @@ sub-result : tie.Need-sub-result
 sub-result c = search needs
 
 returns : tie.Need-returns
-returns c = let p = c .pre in omega (arith, start-of-two _ (p .0) (p .1))
+returns c = let p = c .pre in omega (arith, of-two _ (p .0) (p .1) .start)
 
 pub start-of-two-spec : {M : Type 1} → statement M
 start-of-two-spec = tie.close (tie.spec mul-result sub-result returns)

@@ -22,18 +22,19 @@ use Rattle.read_modules.proofs.record.wrong_nodes.Tie as tie
 abbrev wrong : ℕ → Bool → ℕ → Bool
 wrong nodes used node = if used then leb nodes node else ltb 0 node
 
-by-count : (n nodes out a b : ℕ)
-    → (anyOf (leb nodes) (out ∷ take n (a ∷ b ∷ [])) || anyOf (ltb 0) (drop n (a ∷ b ∷ [])))
-    ≡ (leb nodes out || (wrong nodes (ltb 0 n) a || wrong nodes (ltb 1 n) b))
-by-count zero nodes out a b = simp or-false
-by-count (suc zero) nodes out a b = simp (or-false, or-assoc)
-by-count (suc (suc n)) nodes out a b =
-    ap₂ (λ used unused. anyOf (leb nodes) (out ∷ a ∷ b ∷ used) || anyOf (ltb 0) unused) (take-nil n) (drop-nil n)
-    ∙ simp (lt-ltb 0 (suc (suc n)) (omega arith), lt-ltb 1 (suc (suc n)) (omega arith), or-false)
+by-count : (n nodes out a b c : ℕ)
+    → (anyOf (leb nodes) (out ∷ take n (a ∷ b ∷ c ∷ [])) || anyOf (ltb 0) (drop n (a ∷ b ∷ c ∷ [])))
+    ≡ (leb nodes out || (wrong nodes (ltb 0 n) a || (wrong nodes (ltb 1 n) b || wrong nodes (ltb 2 n) c)))
+by-count zero nodes out a b c = simp or-false
+by-count (suc zero) nodes out a b c = simp (or-false, or-assoc)
+by-count (suc (suc zero)) nodes out a b c = simp (or-false, or-assoc)
+by-count (suc (suc (suc n))) nodes out a b c =
+    ap₂ (λ used unused. anyOf (leb nodes) (out ∷ a ∷ b ∷ c ∷ used) || anyOf (ltb 0) unused) (take-nil n) (drop-nil n)
+    ∙ simp (lt-ltb 0 (suc (suc (suc n))) (omega arith), lt-ltb 1 (suc (suc (suc n))) (omega arith), lt-ltb 2 (suc (suc (suc n))) (omega arith), or-false)
 
 by-node : (nodes : ℕ) (m : Module) (n : ℕ) → n ≡ inputsOf (ruleOf (m .kind) (m .parameter))
-    → miswired nodes m ≡ (leb nodes (m .output) || (wrong nodes (ltb 0 n) (m .first) || wrong nodes (ltb 1 n) (m .second)))
-by-node nodes m n e = rw e (by-count (inputsOf (ruleOf (m .kind) (m .parameter))) nodes (m .output) (m .first) (m .second))
+    → miswired nodes m ≡ (leb nodes (m .output) || (wrong nodes (ltb 0 n) (m .first) || (wrong nodes (ltb 1 n) (m .second) || wrong nodes (ltb 2 n) (m .third))))
+by-node nodes m n e = rw e (by-count (inputsOf (ruleOf (m .kind) (m .parameter))) nodes (m .output) (m .first) (m .second) (m .third))
 
 inputs-requires : tie.Need-inputs-requires
 inputs-requires c κs = search needs
@@ -61,11 +62,22 @@ wrong-input-requires-2 c κs = search needs
 
 returns-3 : tie.Need-returns-3
 returns-3 c =
-    let c2 = c .before .before in
+    let c2 = c .before .before .before in
     let i = c2 .before .before .before in
     sym
     (by-node _ (i .before .args .m) _ (i .inputs .ensures _)
-    ∙ simp (lt-leb _ _ (c2 .before .if1 .left), ← c2 .wrong-input .ensures, c .before .if2 .left, ← c .wrong-input2 .ensures))
+    ∙ simp (lt-leb _ _ (c2 .before .if1 .left), ← c2 .wrong-input .ensures, c .before .before .if2 .left, ← c .before .wrong-input2 .ensures, c .if3 .taken))
+
+wrong-input-requires-3 : tie.Need-wrong-input-requires-3
+wrong-input-requires-3 c κs = search needs
+
+returns-4 : tie.Need-returns-4
+returns-4 c =
+    let c2 = c .before .before .before .before in
+    let i = c2 .before .before .before in
+    sym
+    (by-node _ (i .before .args .m) _ (i .inputs .ensures _)
+    ∙ simp (lt-leb _ _ (c2 .before .if1 .left), ← c2 .wrong-input .ensures, c .before .before .before .if2 .left, ← c .before .before .wrong-input2 .ensures, c .before .if3 .left, ← c .wrong-input3 .ensures))
 
 pub wrong-nodes-spec : {M : Type 1} → statement M
 wrong-nodes-spec =
@@ -77,4 +89,6 @@ wrong-nodes-spec =
     wrong-input-requires
     returns-2
     wrong-input-requires-2
-    returns-3)
+    returns-3
+    wrong-input-requires-3
+    returns-4)
