@@ -48,10 +48,11 @@ modulesCounted s = wordAt s (modulesPlace s)
 abbrev pub modulePlace : Edition → List ℕ → ℕ → ℕ
 modulePlace e s m = modulesPlace s + countSize + e .size * m
 
+-- a record longer than document 01's has a third input
 abbrev pub hasThird : Edition → Bool
-hasThird e = ltb 7 (e .size)
+hasThird e = ltb (firstEdition .size) (e .size)
 
--- a module of an edition without third inputs has 0 for it
+-- and a module whose record has none has 0 for it
 abbrev pub thirdAt : Edition → List ℕ → ℕ → ℕ
 thirdAt e s p = if hasThird e then byteAt s (p + 5) else 0
 
