@@ -1,11 +1,11 @@
 -- What holds of the kinds' rules one by one, each by one test that antt computes over all kinds and values. Assumes nothing.
 use mathlib.Core.Bool.{Bool, true, false, _&&_, _||_}
 use mathlib.Core.List.{List, [], _∷_, _++_, map, List·Memᴰ, List·Memᴰ·head, List·Memᴰ·tail}
-use mathlib.Core.Path.{_≡_, _∙_, refl, sym, ap, subst}
-use Prim.Native.Nat.{ℕ, zero, suc, _+_, _-_, _*_, _≤_, _<_}
+use mathlib.Core.Path.{_≡_, _∙_, refl, sym, ap}
+use Prim.Native.Nat.{ℕ, zero, suc, _+_, _≤_, _<_}
 use native.Mathlib.Nat.{min-eq-left}
 use native.Mathlib.Omega.{arith}
-use borrow.Author.Tests.{ltb-true, ltb-false, eqb-true}
+use borrow.Author.Tests.{ltb-true, ltb-false, eqb-true, lt-ltb, le-ltb, ne-eqb}
 use lib.Dec.{T, eqb, leb, ltb, eqb→eq, leb→le, ltb→lt}
 use lib.Ieee.Fits.{and-l, and-r}
 use lib.ListN.{length, getD, take, length-take, List·getD-map, List·getD-eq-default}
@@ -14,7 +14,7 @@ use Rattle.level.specs.Level.{unknown}
 use Rattle.level.specs.Gate.{inputAt, buffer, inverter, and, or, xor, nand, nor, clockedInverter, multiplexer, member}
 use Rattle.level.specs.Rule.{Rule, gate, hold, inputsOf, comesTo}
 use Rattle.level.specs.Kind.{rules, ruleOf}
-use Rattle.level.specs.Table.{tableSize, tableStart, placeOf, entryOf, tables}
+use Rattle.level.specs.Table.{tableSize, tableStart, tabled, startOf, placeOf, entryOf, tables}
 use Rattle.level.proofs.Computed.{allBelow, below}
 
 -- each of a list is one of the four values
@@ -46,10 +46,6 @@ lists : (l : List ℕ) (f : List ℕ → Bool) → T (allLists (length l) f) →
 lists [] f t v = t
 lists (a ∷ l) f t v = lists l (λ l. f (a ∷ l)) (below 4 (λ a. allLists (length l) (λ l. f (a ∷ l))) t a (v .0)) (v .1)
 
--- a kind has a table: its rule is a gate that has inputs
-abbrev pub tabled : ℕ → Bool
-tabled kind = ltb 0 (tableSize (ruleOf kind 0))
-
 tabled-below : (kind : ℕ) → T (tabled kind) → kind < 16
 tabled-below kind t = by (ltb kind 16) refl
   where
@@ -68,6 +64,18 @@ asked false x t h = absurd t
 pub gates : (f : ℕ → List ℕ → Bool) → T (allGates f) → (kind : ℕ) (l : List ℕ) → T (tabled kind) → length l ≡ inputsOf (ruleOf kind 0) → Values l → T (f kind l)
 gates f t kind l h e v =
     lists l (f kind) (rw e (asked (tabled kind) (allLists (inputsOf (ruleOf kind 0)) (f kind)) h (below 16 (λ k. if tabled k then allLists (inputsOf (ruleOf k 0)) (f k) else true) t kind (tabled-below kind h)))) v
+
+-- the start of a kind that has a table is where that begins
+pub has-start : (kind : ℕ) → T (tabled kind) → startOf kind ≡ tableStart kind
+has-start kind t = by (tabled kind) t
+  where
+    by : (b : Bool) → T b → (if b then tableStart kind else 488) ≡ tableStart kind
+    by true t = refl
+    by false t = absurd t
+
+-- a number that is no kind has no table
+pub no-kind : (kind : ℕ) → 16 ≤ kind → startOf kind ≡ 488
+no-kind kind h = rw (List·getD-eq-default (rules 0) (gate 0 (λ inputs. unknown)) h)
 
 -- a kind uses as many inputs at every parameter
 pub same-inputs : (kind parameter : ℕ) → inputsOf (ruleOf kind parameter) ≡ inputsOf (ruleOf kind 0)
@@ -154,41 +162,58 @@ again (hold set) l h = twice (set (inputAt l 1))
     twice true = refl
     twice false = refl
 
--- what a test says at a kind of a stretch
-in-stretch : (f : ℕ → Bool) (from n : ℕ) → T (allBelow n (λ j. f (from + j))) → (k : ℕ) → from ≤ k → k < from + n → T (f k)
-in-stretch f from n t k l h = subst (λ x. T (f x)) same (below n (λ j. f (from + j)) t (k - from) (omega arith))
-  where
-    same : from + (k - from) ≡ k
-    same = omega arith
-
--- a kind that has a table: how many inputs it uses, and where its table begins
-pub record Tabled (kind n from : ℕ) : Type 0 where
+-- a kind whose start tells that it has a table: of so many entries, how many inputs it uses, and that its table is within the tables
+pub record Tabled (kind n size : ℕ) : Type 0 where
   pub has-table : T (tabled kind)
   pub inputs : inputsOf (ruleOf kind 0) ≡ n
-  pub start : tableStart kind ≡ from
+  pub begins : startOf kind ≡ tableStart kind
+  pub within : startOf kind + size ≤ 488
 
-tells : (n : ℕ) (start : ℕ → ℕ) (from count : ℕ) → T (allBelow count (λ j. tabled (from + j) && (eqb (inputsOf (ruleOf (from + j) 0)) n && eqb (tableStart (from + j)) (start (from + j)))))
-    → (k : ℕ) → from ≤ k → k < from + count → Tabled k n (start k)
-tells n start from count t k l h =
-    let test = in-stretch (λ k. tabled k && (eqb (inputsOf (ruleOf k 0)) n && eqb (tableStart k) (start k))) from count t k l h in
-    let rest = and-r (tabled k) (eqb (inputsOf (ruleOf k 0)) n && eqb (tableStart k) (start k)) test in
-    record {
-      has-table = and-l (tabled k) (eqb (inputsOf (ruleOf k 0)) n && eqb (tableStart k) (start k)) test;
-      inputs = eqb→eq _ _ (and-l (eqb (inputsOf (ruleOf k 0)) n) (eqb (tableStart k) (start k)) rest);
-      start = eqb→eq _ _ (and-r (eqb (inputsOf (ruleOf k 0)) n) (eqb (tableStart k) (start k)) rest);
-    }
+module _ (n size from to : ℕ) where
+  abbrev uses : ℕ → Bool
+  uses k = eqb (inputsOf (ruleOf k 0)) n
 
--- kinds 1 and 2 are gates of one input, 3 to 8 of two, 10 to 15 of three
-pub of-one : (k : ℕ) → 1 ≤ k → k ≤ 2 → Tabled k 1 (4 * k - 4)
-of-one k l h = tells 1 (λ k. 4 * k - 4) 1 2 tt k l (omega arith)
+  abbrev starts : ℕ → Bool
+  starts k = eqb (startOf k) (tableStart k)
 
-pub of-two : (k : ℕ) → 3 ≤ k → k ≤ 8 → Tabled k 2 (16 * k - 40)
-of-two k l h = tells 2 (λ k. 16 * k - 40) 3 6 tt k l (omega arith)
+  abbrev ends : ℕ → Bool
+  ends k = leb (startOf k + size) 488
 
-pub of-three : (k : ℕ) → 10 ≤ k → k ≤ 15 → Tabled k 3 (64 * k - 536)
-of-three k l h = tells 3 (λ k. 64 * k - 536) 10 6 tt k l (omega arith)
+  -- what a start from here to there tells
+  abbrev told : ℕ → Bool
+  told k = if ltb (startOf k) to then if ltb (startOf k) from then true else tabled k && (uses k && (starts k && ends k)) else true
+
+  tells : T (allBelow 16 told) → to ≤ 488 → (k : ℕ) → from ≤ startOf k → startOf k < to → Tabled k n size
+  tells t e k l h = by (ltb k 16) refl
+    where
+      by : (b : Bool) → ltb k 16 ≡ b → Tabled k n size
+      by true i =
+          let test = rw (lt-ltb (startOf k) to h, le-ltb (startOf k) from l) at (below 16 told t k (ltb-true k 16 i)) in
+          let rest = and-r (tabled k) (uses k && (starts k && ends k)) test in
+          let last = and-r (uses k) (starts k && ends k) rest in
+          record {
+            has-table = and-l (tabled k) (uses k && (starts k && ends k)) test;
+            inputs = eqb→eq _ _ (and-l (uses k) (starts k && ends k) rest);
+            begins = eqb→eq _ _ (and-l (starts k) (ends k) last);
+            within = leb→le _ _ (and-r (starts k) (ends k) last);
+          }
+      by false i = absurd (omega (arith, no-kind k (ltb-false k 16 i)))
+
+-- the starts below 8 are those of gates of one input, then come those of two, and from 104 on those of three
+pub of-one : (k : ℕ) → startOf k < 8 → Tabled k 1 4
+of-one k h = tells 1 4 0 8 tt (omega arith) k (omega arith) h
+
+pub of-two : (k : ℕ) → 8 ≤ startOf k → startOf k < 104 → Tabled k 2 16
+of-two k l h = tells 2 16 8 104 tt (omega arith) k l h
+
+pub of-three : (k : ℕ) → 104 ≤ startOf k → startOf k < 488 → Tabled k 3 64
+of-three k l h = tells 3 64 104 488 tt (omega arith) k l h
+
+-- a kind that has no table is a constant or a memory
+pub of-none : (k : ℕ) → k < 16 → 488 ≤ startOf k → (k ≡ 0 → ⊥) → k ≡ 9
+of-none k h l ne = eqb→eq _ _ (rw (le-ltb (startOf k) 488 l, ne-eqb k 0 ne) at (below 16 (λ k. if ltb (startOf k) 488 then true else if eqb k 0 then true else eqb k 9) tt k h))
 
 -- an entry of such a kind's table
-pub entry-at : {kind n start : ℕ} → Tabled kind n start → (inputs : List ℕ) (place : ℕ) → length inputs ≡ n → Values inputs → place ≡ placeOf inputs
+pub entry-at : {kind n size : ℕ} → Tabled kind n size → (inputs : List ℕ) (place : ℕ) → length inputs ≡ n → Values inputs → place ≡ placeOf inputs
     → getD tables (tableStart kind + place) 0 ≡ comesTo (ruleOf kind 0) inputs 0
 entry-at {kind} t inputs place e v p = ap (λ i. getD tables (tableStart kind + i) 0) p ∙ gate-entry kind inputs (t .has-table) (e ∙ sym (t .inputs)) v

@@ -1,10 +1,12 @@
 -- Document 01, "Examples": those marked * to be proved, as a table of a value and what the paper says it is. This part has the gates',
--- the clocked inverter's as document 02's W-202 has it, at each clock, and those of W-205's gates of three inputs.
+-- the clocked inverter's as document 02's W-202 has it, at each clock, and those of W-205's gates of three inputs; and where kinds' tables
+-- begin, which W-206 keeps.
 use mathlib.Core.List.{List, [], _∷_, List·Memᴰ}
 use mathlib.Core.Path.{_≡_}
 use Prim.Native.Nat.{ℕ}
 use Rattle.level.specs.Level.{low, high, unknown, none}
 use Rattle.level.specs.Gate.{nand, and, or, xor, inverter, clockedInverter, nor, multiplexer}
+use Rattle.level.specs.Table.{startOf}
 
 -- a value that a definition gives, and the paper's
 pub record Example : Type 0 where
@@ -48,4 +50,18 @@ gateExamples =
     ∷ is (multiplexer (low ∷ low ∷ none ∷ [])) low
     ∷ is (multiplexer (low ∷ high ∷ unknown ∷ [])) unknown
     ∷ is (multiplexer (none ∷ none ∷ unknown ∷ [])) unknown
+    ∷ []
+
+-- the first and the last kind of one input, of two and of three; a constant, a memory and a number that is no kind have no table
+abbrev pub startExamples : List Example
+startExamples =
+    is (startOf 1) 0
+    ∷ is (startOf 2) 4
+    ∷ is (startOf 3) 8
+    ∷ is (startOf 8) 88
+    ∷ is (startOf 10) 104
+    ∷ is (startOf 15) 424
+    ∷ is (startOf 0) 488
+    ∷ is (startOf 9) 488
+    ∷ is (startOf 16) 488
     ∷ []

@@ -1,8 +1,11 @@
 -- The constant tables: one for each kind of gate that has inputs, kind after kind: 4 entries for one input, 16 for
 -- two and 64 for three.
 -- First where a gate's entry stands in them, then the entries.
+use mathlib.Core.Bool.{Bool}
 use mathlib.Core.List.{List, [], _∷_, _++_, map}
 use Prim.Native.Nat.{ℕ, zero, suc, _+_, _*_, _^_}
+use lib.Dec.{ltb}
+use Rattle.level.specs.Choice.{if_then_else_}
 use Rattle.level.specs.Rule.{Rule, gate, hold}
 use Rattle.level.specs.Kind.{ruleOf, lastKind}
 
@@ -16,6 +19,14 @@ tableSize (hold set) = 0
 abbrev pub tableStart : ℕ → ℕ
 tableStart zero = 0
 tableStart (suc kind) = tableStart kind + tableSize (ruleOf kind 0)
+
+-- a kind has a table: its rule is a gate that has inputs
+abbrev pub tabled : ℕ → Bool
+tabled kind = ltb 0 (tableSize (ruleOf kind 0))
+
+-- a kind's start: where its table begins, and for a kind that has none the end of all tables, where no entry stands
+abbrev pub startOf : ℕ → ℕ
+startOf kind = if tabled kind then tableStart kind else tableStart (suc lastKind)
 
 -- where in a table the entry of the inputs' values stands, the first input's value counting most, after the values already passed
 abbrev pub placeAfter : ℕ → List ℕ → ℕ

@@ -4,13 +4,13 @@ mod tables;
 use crate::tables::TABLES;
 ghost use mathlib.Core.Path.{_≡_};
 ghost use mathlib.Core.List.{List, [], _∷_};
-ghost use Prim.Native.Nat.{ℕ, _+_, _%_, _≤_};
+ghost use Prim.Native.Nat.{ℕ, _%_};
 ghost use lib.ListN.{take};
 ghost use Rattle.level.specs.Level.{printed};
 ghost use Rattle.level.specs.Gate.{member};
 ghost use Rattle.level.specs.Rule.{inputsOf, comesTo};
 ghost use Rattle.level.specs.Kind.{ruleOf};
-ghost use Rattle.level.specs.Table.{tableStart, tables};
+ghost use Rattle.level.specs.Table.{startOf, tables};
 
 // The last of document 01's kinds, and the last that has a rule; the kinds of a constant and of a memory.
 pub const LAST_OF_TWO: u8 = 9;
@@ -21,11 +21,36 @@ pub const CONSTANT: u8 = 0;
 
 pub const MEMORY: u8 = 9;
 
-// Kinds 1 to this one are gates of one input.
-pub const LAST_OF_ONE: u8 = 2;
-
 // The entries of all tables.
 pub const TABLE_ENTRIES: usize = 488;
+
+// The tables of one input come first, then those of two, then those of three. From here on a start is that of a gate of two inputs, of
+// three, or of a kind without a table: such a kind has the end of all tables for its start.
+pub const START_OF_TWO: u16 = 8;
+
+pub const START_OF_THREE: u16 = 104;
+
+pub const NO_TABLE: u16 = 488;
+
+// The start of each kind: where its table begins, after those of the kinds before it. Kinds 0 and 9 have none.
+const STARTS: [u16; 16] = [
+    NO_TABLE, // constant
+    0, // buffer
+    4, // inverter
+    8, // AND
+    24, // OR
+    40, // XOR
+    56, // NAND
+    72, // NOR
+    88, // clocked inverter
+    NO_TABLE, // memory
+    104, // AND of three
+    168, // OR of three
+    232, // XOR of three
+    296, // NAND of three
+    360, // NOR of three
+    424, // multiplexer
+];
 
 // The weight of each value in a memory's set.
 const WEIGHTS: [u8; 4] = [1, 2, 4, 8];
@@ -68,28 +93,15 @@ impl Level {
         TABLES
     }
 
-    // Where the table of a gate of one input begins: it has 4 entries, by the input's value.
-    pub fn start_of_one(kind: u8) -> usize
-        requires { ⌜ (1 ≤ kind) × (kind ≤ 2) ⌝ }
-        ensures { λ r. ⌜ (r ≡ tableStart kind) × (r + 4 ≤ 488) ⌝ }
+    // A kind's start: where its table begins, if it has one.
+    pub fn start(kind: u8) -> u16
+        ensures { λ r. ⌜ r ≡ startOf kind ⌝ }
     {
-        4 * (kind as usize) - 4
-    }
-
-    // Where the table of a gate of two inputs begins: it has 16 entries, by the first input's value and then the second's.
-    pub fn start_of_two(kind: u8) -> usize
-        requires { ⌜ (3 ≤ kind) × (kind ≤ 8) ⌝ }
-        ensures { λ r. ⌜ (r ≡ tableStart kind) × (r + 16 ≤ 488) ⌝ }
-    {
-        16 * (kind as usize) - 40
-    }
-
-    // Where the table of a gate of three inputs begins: it has 64 entries, by the first input's value, the second's and the third's.
-    pub fn start_of_three(kind: u8) -> usize
-        requires { ⌜ (10 ≤ kind) × (kind ≤ 15) ⌝ }
-        ensures { λ r. ⌜ (r ≡ tableStart kind) × (r + 64 ≤ 488) ⌝ }
-    {
-        64 * (kind as usize) - 536
+        if kind <= LAST_KIND {
+            STARTS[kind as usize]
+        } else {
+            NO_TABLE
+        }
     }
 
     // A constant, kind 0: its parameter, whatever the inputs and the value held.
@@ -103,19 +115,20 @@ impl Level {
     pub fn gate(kind: u8, first: u8, second: u8, third: u8) -> u8
         ensures { λ r. ⌜ r ≡ comesTo (ruleOf kind 0) (take (inputsOf (ruleOf kind 0)) (first % 4 ∷ second % 4 ∷ third % 4 ∷ [])) 0 ⌝ }
     {
-        if kind == CONSTANT {
-            Level::LOW
-        } else if kind <= LAST_OF_ONE {
-            TABLES[Level::start_of_one(kind) + (first % 4) as usize]
-        } else if kind < MEMORY {
-            TABLES[Level::start_of_two(kind) + 4 * ((first % 4) as usize) + (second % 4) as usize]
-        } else if kind == MEMORY {
-            Level::LOW
-        } else if kind <= LAST_KIND {
-            TABLES[Level::start_of_three(kind)
+        let start = Level::start(kind);
+        if start < START_OF_TWO {
+            TABLES[start as usize + (first % 4) as usize]
+        } else if start < START_OF_THREE {
+            TABLES[start as usize + 4 * ((first % 4) as usize) + (second % 4) as usize]
+        } else if start < NO_TABLE {
+            TABLES[start as usize
                 + 16 * ((first % 4) as usize)
                 + 4 * ((second % 4) as usize)
                 + (third % 4) as usize]
+        } else if kind == CONSTANT {
+            Level::LOW
+        } else if kind == MEMORY {
+            Level::LOW
         } else {
             Level::UNKNOWN
         }

@@ -16,6 +16,7 @@ use Rattle.network.proofs.WorkingOrder.{every-module-once}
 use Rattle.network.proofs.RecordsInOrder.{record-there}
 use Rattle.model.specs.Fresh.{notShown}
 use Rattle.model.specs.Passes.{moduleIn}
+use Rattle.model.specs.Starts.{StartsOf}
 use Rattle.model.specs.State.{firstValue}
 use Rattle.model.specs.Store.{Store}
 use Rattle.model.specs.Ticks.{orderedAt, Begun}
@@ -67,9 +68,9 @@ module _ (S : Sheet) (acc : Accepted S) where
         ∙ first o n
         ∙ rw (ne-eqb (nodeByte S o) inputByte (omega arith))
 
-    pub loaded : (store : Store) {shown : List ℕ} {pending : store .Kept} → shown ≡ replicate 256 notShown → pending ≡ store .nothing
-        → Begun store S (record { values = values; last = last; shown = shown; pending = pending })
-    loaded store s p =
+    pub loaded : (store : Store) {shown : List ℕ} (starts : List ℕ) {pending : store .Kept} → shown ≡ replicate 256 notShown → StartsOf (inWorkingOrder S) starts → pending ≡ store .nothing
+        → Begun store S (record { values = values; last = last; shown = shown; starts = starts; pending = pending })
+    loaded store starts s b p =
         record {
           values-size = vl .size;
           values = first;
@@ -79,5 +80,6 @@ module _ (S : Sheet) (acc : Accepted S) where
           last-levels = ll .each;
           shown-size = rw s (length-replicate 256 notShown);
           shown = λ v h. rw s (getD-replicate 256 v notShown 0 h);
+          starts = b;
           pending = p;
         }

@@ -1,22 +1,16 @@
--- The arrays that are filled before a run: one entry after another, one module after another. Assumes nothing.
+-- The arrays that are filled before a run: one record after another, one delayed module after another. Assumes nothing.
 use mathlib.Core.List.{List, [], _∷_, _++_}
-use mathlib.Core.Path.{_≡_, _∙_}
+use mathlib.Core.Path.{_≡_}
 use Prim.Native.Nat.{ℕ, _+_, _<_}
 use native.Mathlib.Nat.{add-zero}
 use native.Mathlib.Numerals.{add-one}
-use native.Mathlib.Omega.{arith}
-use borrow.Author.Count.{below-more}
 use borrow.Author.Tests.{eq-eqb, ne-eqb}
-use lib.ListN.{length, getD, set, take}
-use lib.Seq.{take-suc, getD-take, getD-set-same, getD-set-other}
+use lib.ListN.{length, getD, take}
+use lib.Seq.{take-suc, getD-take}
 use Rattle.sheet.specs.declared.Module.{Module}
 use Rattle.sheet.specs.Sheet.{Sheet, noModule, moduleOf}
 use Rattle.model.specs.State.{delayedBelow}
 use Rattle.model.specs.Passes.{moduleIn}
-
--- one entry more
-pub filled-more : (f : ℕ → ℕ) (l : List ℕ) (k a : ℕ) → k < length l → ((j : ℕ) → j < k → getD l j 0 ≡ f j) → a ≡ f k → (j : ℕ) → j < k + 1 → getD (set l k a) j 0 ≡ f j
-filled-more f l k a b h e = below-more (λ j. getD (set l k a) j 0 ≡ f j) k (λ j q. getD-set-other l k j a 0 (omega arith) ∙ h j q) (getD-set-same l k a 0 b ∙ e)
 
 -- one record more
 pub taken-more : {A : Type 0} (l : List A) (k : ℕ) (d : A) {xs ys : List A} → k < length l → xs ≡ take k l → ys ≡ xs ++ getD l k d ∷ [] → ys ≡ take (k + 1) l

@@ -54,7 +54,7 @@ listStore =
     }
 
 abbrev start : State listStore
-start = record { values = 2 ∷ 2 ∷ []; last = 2 ∷ []; shown = 255 ∷ 255 ∷ []; pending = [] }
+start = record { values = 2 ∷ 2 ∷ []; last = 2 ∷ []; shown = 255 ∷ 255 ∷ []; starts = 56 ∷ []; pending = [] }
 
 abbrev listedAt : ℕ → ℕ → ℕ → Record
 listedAt t v x = record { tick = t; node = v; value = x }
@@ -62,3 +62,8 @@ listedAt t v x = record { tick = t; node = v; value = x }
 pub worked-run : recordsBelow listStore (sheetOf firstEdition workedSheet) 12 start 12 ≡ listedAt 0 0 0 ∷ listedAt 0 1 2 ∷ listedAt 3 1 1 ∷ listedAt 5 0 1 ∷ listedAt 8 1 0 ∷ listedAt 11 1 1 ∷ []
 unfolding sheetOf each workingOrder eventsBelow driven notDue passing giveAll settle schedule fresh showAll delayedBelow stateAt recordsBelow
 worked-run = refl
+
+-- where the table of its one module begins, a NAND, is kept
+pub worked-starts : stateAt listStore (sheetOf firstEdition workedSheet) 12 start 12 .starts ≡ 56 ∷ []
+unfolding stateAt
+worked-starts = refl

@@ -108,8 +108,8 @@ module _ {store : Store} {S : Sheet} {c : Cells} {horizon : ℕ} (G : Setting S 
   same-state : (tickOf store S horizon (suc u) st .records ≡ []) × (tickOf store S horizon (suc u) st .state ≡ st)
   same-state = (
     rw settled-same (none-fresh (suc u) (st .values) (st .shown) (S .watched) shown-values),
-    ap₂ (λ s p. record { values = s .values; last = p .last; shown = showAll (s .values) (st .shown) (S .watched); pending = p .pending }) settled-same scheduled-same
-        ∙ ap (λ d. record { values = st .values; last = st .last; shown = d; pending = st .pending })
+    ap₂ (λ s p. record { values = s .values; last = p .last; shown = showAll (s .values) (st .shown) (S .watched); starts = st .starts; pending = p .pending }) settled-same scheduled-same
+        ∙ ap (λ d. record { values = st .values; last = st .last; shown = d; starts = st .starts; pending = st .pending })
         (shows (st .values) (st .shown) (S .watched) ∙ puts-same (λ v. v) (λ v. getD (st .values) v 0) (S .watched) (st .shown) shown-values),
   )
 

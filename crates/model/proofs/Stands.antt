@@ -1,16 +1,21 @@
 -- What the run keeps stands in the cells before every tick up to the horizon: it does before tick 0, and a tick hands it on. So its records are the listing and its pending changes
 -- are as many as the cells have, whatever keeps them. Assumes nothing.
-use lib.ListN.{length}
+use lib.Dec.{T}
+use lib.ListN.{length, getD}
 use mathlib.Core.List.{[], List·Memᴰ·not-nil}
 use mathlib.Core.Path.{_≡_, refl, _∙_}
 use native.Mathlib.Nat.{not-suc-le-zero}
 use native.Mathlib.Omega.{arith}
 use Prim.Native.Nat.{ℕ, zero, suc, _<_, _≤_}
+use Rattle.level.specs.Table.{tableStart, tabled}
+use Rattle.level.proofs.Gates.{has-start}
 use Rattle.sheet.specs.Enumerate.{each}
 use Rattle.sheet.specs.Sheet.{Sheet, watchedNode}
+use Rattle.sheet.specs.WorkingOrder.{inWorkingOrder}
 use Rattle.network.specs.Timeline.{Cells}
 use Rattle.network.specs.Listing.{listing, pending}
 use Rattle.model.specs.Store.{Store}
+use Rattle.model.specs.Passes.{moduleIn}
 use Rattle.model.specs.State.{State}
 use Rattle.model.specs.Ticks.{Begun, tickOf, stateAt, recordsBelow}
 use Rattle.model.specs.Standing.{Owed, Standing}
@@ -38,6 +43,7 @@ module _ {store : Store} {S : Sheet} {c : Cells} {horizon : ℕ} (G : Setting S 
         last = scheduled-last G t h st stands;
         shown-size = shown-size S c t (G .accepted) _ (st .shown) cells (stands .shown-size);
         shown = now-shown S c t (G .accepted) _ (st .shown) cells (stands .shown-size);
+        starts = stands .starts;
         held = planned .changes;
         holds = planned .pending .holds;
         owing = all-held G t (planned .pending) (λ k l. l);
@@ -56,6 +62,7 @@ module _ {store : Store} {S : Sheet} {c : Cells} {horizon : ℕ} (G : Setting S 
           last = begun .last;
           shown-size = begun .shown-size;
           shown = λ k h. begun .shown (watchedNode S k) (omega (arith, G .accepted .watched-nodes k h, G .accepted .nodes));
+          starts = begun .starts;
           held = [];
           holds = rw (begun .pending) (store .holds-nothing);
           owing = record { owed = λ x m. absurd (List·Memᴰ·not-nil m); pending = λ k u o. absurd (none k u o); once = λ i j h b d e. not-suc-le-zero b };
@@ -68,6 +75,11 @@ module _ {store : Store} {S : Sheet} {c : Cells} {horizon : ℕ} (G : Setting S 
     unfolding stateAt
     stands zero h = before-first
     stands (suc t) h = next-stands t h (stateAt store S horizon st t) (stands t (omega arith))
+
+    -- in each tick what is kept for a module that has a table is where its kind's table begins
+    pub tables-begin : (t : ℕ) → t ≤ horizon → (k : ℕ) → k < length (inWorkingOrder S) → T (tabled (moduleIn (inWorkingOrder S) k .kind))
+        → getD (stateAt store S horizon st t .starts) k 0 ≡ tableStart (moduleIn (inWorkingOrder S) k .kind)
+    tables-begin t h k l has = stands t h .starts k l ∙ has-start (moduleIn (inWorkingOrder S) k .kind) has
 
     -- the records of the ticks below a bound are the listing that the cells give
     pub records : (t : ℕ) → t ≤ horizon → recordsBelow store S horizon st t ≡ listing S c t

@@ -3,6 +3,7 @@ pub mod Change
 pub mod Store
 pub mod Drive
 pub mod Passes
+pub mod Starts
 pub mod Fresh
 pub mod State
 pub mod Ticks

@@ -9,11 +9,13 @@ use Rattle.sheet.specs.Limits.{mostNodes, mostModules}
 use Rattle.sheet.specs.declared.Module.{Module}
 use Rattle.sheet.specs.Sheet.{Sheet, nodeCount, nodeByte, moduleCount, moduleOf, eventCount, eventOf, watchedCount, watchedNode}
 use Rattle.sheet.specs.Wiring.{moduleRule}
+use Rattle.sheet.specs.WorkingOrder.{inWorkingOrder}
 use Rattle.network.specs.Timeline.{Cells, Timeline, comesToAt, inputCells}
 use Rattle.network.specs.Listing.{changes}
 use Rattle.model.specs.Change.{Change}
 use Rattle.model.specs.Store.{Store}
 use Rattle.model.specs.Fresh.{notShown}
+use Rattle.model.specs.Starts.{StartsOf}
 use Rattle.model.specs.State.{State, delayedCount, firstValue}
 use Rattle.model.specs.Ticks.{orderedAt}
 
@@ -58,6 +60,8 @@ pub record Standing (store : Store) (S : Sheet) (c : Cells) (horizon t : ℕ) (s
   pub last : (k : ℕ) → k < moduleCount S → getD (st .last) k 0 ≡ before (aheadOf S c k) (nodeByte S (placed S k .output)) t
   pub shown-size : length (st .shown) ≡ mostNodes
   pub shown : (k : ℕ) → k < watchedCount S → getD (st .shown) (watchedNode S k) 0 ≡ before (λ u. c u (watchedNode S k)) notShown t
+  -- what is kept for each module is the start that its kind gives
+  pub starts : StartsOf (inWorkingOrder S) (st .starts)
   -- the store holds exactly the owed changes, each once
   pub held : List Change
   pub holds : store .Holds (st .pending) held

@@ -38,11 +38,13 @@ loadedOf S = record { drive = S .drive; modules = inWorkingOrder S; delayed = de
 abbrev pub firstValue : Sheet → ℕ → ℕ
 firstValue S v = if eqb (nodeByte S v) inputByte then unknown else nodeByte S v
 
--- the nodes' values, the value that each module came to last, the values shown last, and the pending changes
+-- the nodes' values, the value that each module came to last, the values shown last, the starts of the modules' kinds, and the pending
+-- changes
 pub record State (store : Store) : Type 0 where
   pub values : List ℕ
   pub last : List ℕ
   pub shown : List ℕ
+  pub starts : List ℕ
   pub pending : store .Kept
 
 -- one tick: what is kept after it, and its records
@@ -62,6 +64,7 @@ tick store l horizon t st =
             values = settled .values;
             last = scheduled .last;
             shown = showAll (settled .values) (st .shown) (l .watched);
+            starts = st .starts;
             pending = scheduled .pending;
           };
       records = fresh t (settled .values) (st .shown) (l .watched);

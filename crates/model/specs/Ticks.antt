@@ -5,17 +5,19 @@ use Prim.Native.Nat.{ℕ, zero, suc, _<_}
 use lib.ListN.{length, getD}
 use Rattle.sheet.specs.Limits.{mostNodes, mostModules}
 use Rattle.sheet.specs.Sheet.{Sheet, nodeCount, nodeByte, moduleCount, outputOf}
-use Rattle.sheet.specs.WorkingOrder.{workingOrder}
+use Rattle.sheet.specs.WorkingOrder.{workingOrder, inWorkingOrder}
 use Rattle.network.specs.Listing.{Record}
 use Rattle.model.specs.Store.{Store}
 use Rattle.model.specs.Fresh.{notShown}
+use Rattle.model.specs.Starts.{StartsOf}
 use Rattle.model.specs.State.{State, Ticked, loadedOf, firstValue, tick}
 
 -- the module at position k of the working order, as the sheet numbers it
 abbrev pub orderedAt : Sheet → ℕ → ℕ
 orderedAt S k = getD (workingOrder S) k 0
 
--- before tick 0 nodes have their first values, modules have come to their outputs' initial values, and nothing is shown or pending
+-- before tick 0 nodes have their first values, modules have come to their outputs' initial values, nothing is shown or pending, and the
+-- starts of the modules' kinds are worked out
 pub record Begun (store : Store) (S : Sheet) (st : State store) : Type 0 where
   pub values-size : length (st .values) ≡ mostNodes
   pub values : (v : ℕ) → v < nodeCount S → getD (st .values) v 0 ≡ firstValue S v
@@ -25,6 +27,7 @@ pub record Begun (store : Store) (S : Sheet) (st : State store) : Type 0 where
   pub last-levels : (k : ℕ) → getD (st .last) k 0 < 4
   pub shown-size : length (st .shown) ≡ mostNodes
   pub shown : (v : ℕ) → v < mostNodes → getD (st .shown) v 0 ≡ notShown
+  pub starts : StartsOf (inWorkingOrder S) (st .starts)
   pub pending : st .pending ≡ store .nothing
 
 abbrev pub tickOf : (store : Store) → Sheet → ℕ → ℕ → State store → Ticked store

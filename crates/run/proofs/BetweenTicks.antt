@@ -23,6 +23,7 @@ use Rattle.model.specs.Change.{Change}
 use Rattle.model.specs.Drive.{eventIn, eventsBelow, nextEvent}
 use Rattle.model.specs.Fresh.{fresh}
 use Rattle.model.specs.State.{State, Loaded, delayedCount}
+use Rattle.model.specs.Standing.{Standing}
 use Rattle.model.specs.Ticks.{tickOf, stateAt, recordsBelow}
 use Rattle.model.proofs.Setting.{module-total}
 use Rattle.model.proofs.DelayedFirst.{delayed-at-most, delayed-listed}
@@ -46,10 +47,10 @@ use Rattle.load.proofs.Begun.{known-modules, driving}
 use Rattle.run.specs.Ready.{kept, Ready}
 
 -- before tick t: the arrays, the first event that is not before it, the changes pending and the records written
-pub record BetweenTicks (S : Sheet) (st : State arrangement) (horizon : ℕ) (buffer : List ℕ) (t next due n : ℕ) (values last shown store listing places : List ℕ) : Type 0 where
+pub record BetweenTicks (S : Sheet) (st : State arrangement) (horizon : ℕ) (buffer : List ℕ) (t next due n : ℕ) (values last shown starts store listing places : List ℕ) : Type 0 where
   pub within : t ≤ horizon
   pub driven : next ≡ nextEvent (S .drive) t
-  pub state : kept values last shown store due ≡ stateAt arrangement S horizon st t
+  pub state : kept values last shown starts store due ≡ stateAt arrangement S horizon st t
   pub few : due ≤ pendingLimit
   pub values-levels : Levels values
   pub last-levels : Levels last
@@ -66,12 +67,12 @@ none-before drive zero = refl
 none-before drive (suc n) = rw (← none-before drive n, le-ltb (eventIn drive n .tick) 0 (omega arith))
 
 -- the listing is as long as it was
-pub same-length-so-far : {S : Sheet} {st : State arrangement} {horizon : ℕ} {buffer : List ℕ} {t next due n : ℕ} {values last shown store now places : List ℕ}
-    → BetweenTicks S st horizon buffer t next due n values last shown store now places → length now ≡ length buffer
+pub same-length-so-far : {S : Sheet} {st : State arrangement} {horizon : ℕ} {buffer : List ℕ} {t next due n : ℕ} {values last shown starts store now places : List ℕ}
+    → BetweenTicks S st horizon buffer t next due n values last shown starts store now places → length now ≡ length buffer
 same-length-so-far G = holding-length (G .holding)
 
-same-state : {v v′ l l′ d d′ p p′ : List ℕ} → v ≡ v′ → l ≡ l′ → d ≡ d′ → p ≡ p′
-    → _≡_ {A = State arrangement} (record { values = v; last = l; shown = d; pending = p }) (record { values = v′; last = l′; shown = d′; pending = p′ })
+same-state : {v v′ l l′ d d′ s p p′ : List ℕ} → v ≡ v′ → l ≡ l′ → d ≡ d′ → p ≡ p′
+    → _≡_ {A = State arrangement} (record { values = v; last = l; shown = d; starts = s; pending = p }) (record { values = v′; last = l′; shown = d′; starts = s; pending = p′ })
 same-state e f g h = rw (e, f, g, h)
 
 module _ {S : Sheet} {table delays times nodes levels watched : List ℕ} {st : State arrangement} {horizon : ℕ} {shape : Shape} {total : ℕ}
@@ -100,10 +101,10 @@ module _ {S : Sheet} {table delays times nodes levels watched : List ℕ} {st : 
   among-watched : (t : ℕ) → t ≤ horizon → (r : Record) → List·Memᴰ r (below t) → List·Memᴰ (r .node) (take total watched)
   among-watched t h r m = rw (R .watched-there) (listed-shown S cells t r .0 (rw (below-listed t h) at m) .watched)
 
-  pub start : (values last shown store : List ℕ) → st ≡ kept values last shown store 0 → Sized store → (buffer : List ℕ)
-      → BetweenTicks S st horizon buffer 0 0 0 0 values last shown store buffer (replicate mostNodes 0)
+  pub start : (values last shown starts store : List ℕ) → st ≡ kept values last shown starts store 0 → Sized store → (buffer : List ℕ)
+      → BetweenTicks S st horizon buffer 0 0 0 0 values last shown starts store buffer (replicate mostNodes 0)
   unfolding stateAt recordsBelow
-  start values last shown store e size buffer =
+  start values last shown starts store e size buffer =
       let b = R .begun in
       record {
         within = omega arith;
@@ -133,29 +134,34 @@ module _ {S : Sheet} {table delays times nodes levels watched : List ℕ} {st : 
           left = bytes ∙ ap (λ rs. bufferAfter rs buffer) (all-have-end watched t total (below t) (among-watched t h) ∙ ap (withEnds (λ v. t)) (below-listed t h) ∙ cell-ends cells t S (R .accepted) ∙ sym (ap (λ w. w .records) e));
         }
 
-  module _ {buffer : List ℕ} {t next due n : ℕ} {values last shown store now places : List ℕ}
-      (G : BetweenTicks S st horizon buffer t next due n values last shown store now places) where
+  module _ {buffer : List ℕ} {t next due n : ℕ} {values last shown starts store now places : List ℕ}
+      (G : BetweenTicks S st horizon buffer t next due n values last shown starts store now places) where
     -- the count of records is a number of 32 bits
     pub few-records : n < 4294967296
     few-records = omega (arith, G .within, G .bounded, R .few-ticks)
+
+    -- what is kept before the tick stands in the cells, the starts of the modules' tables with it
+    standing : Standing arrangement S cells horizon t (stateAt arrangement S horizon st t)
+    standing = stands (setting (R .accepted) horizon) st (R .begun) t (G .within)
 
     module _ (h : t < horizon) where
       -- each change that is due is of a module in the tables
       due-placed : Placed (shape .modules) (arrangement .due (keptIn store due) t)
       due-placed x m =
-          let s = stands (setting (R .accepted) horizon) st (R .begun) t (G .within) in
+          let s = standing in
           let holds = subst (λ k. arrangement .Holds k (s .held)) (sym (ap (λ x. x .pending) (G .state))) (s .holds) in
           let in-held = arrangement .tells-due (keptIn store due) (s .held) t holds x .0 m .0 in
           let o = s .owing .owed x in-held in
           omega (arith, delayed-listed S (o .0) (o .2 .delayed), ap (λ (y : Change). y .position) (o .3), modules-counted)
 
-      pub workable : Workable shape tables horizon t values last store (record { next = next; pending = due })
+      pub workable : Workable shape tables horizon t values last starts store (record { next = next; pending = due })
       workable =
           record {
             few-modules = omega (arith, modules-counted, R .accepted .modules);
             few-delayed = omega (arith, R .delayed, modules-counted, delayed-most);
             few-events = omega (arith, events-counted, R .accepted .events);
             known = rw (R .modules) (known-modules S (R .accepted));
+            starts-kept = rw (R .modules, ap (λ x. x .starts) (G .state)) (standing .starts);
             driving = rw (R .drive) (driving S (R .accepted));
             next = rw (R .drive) (G .driven);
             few-pending = G .few;
@@ -187,7 +193,7 @@ module _ {S : Sheet} {table delays times nodes levels watched : List ℕ} {st : 
         worked = subst (λ l. Worked l horizon t values last (keptIn store due) values′ last′ store′ after) same-tables W
 
         abbrev start-of-tick : State arrangement
-        start-of-tick = kept values last shown store due
+        start-of-tick = kept values last shown starts store due
 
         these-records : these ≡ tickOf arrangement S horizon t (stateAt arrangement S horizon st t) .records
         these-records = rw (← G .state, R .watched-there, worked .values-worked)
@@ -257,13 +263,13 @@ module _ {S : Sheet} {table delays times nodes levels watched : List ℕ} {st : 
           shown-next : shown′ ≡ tickOf arrangement S horizon t start-of-tick .state .shown
           shown-next = D .now-shown ∙ rw (R .watched-there, worked .values-worked)
 
-          state-next : kept values′ last′ shown′ store′ (after .pending) ≡ stateAt arrangement S horizon st (suc t)
+          state-next : kept values′ last′ shown′ starts store′ (after .pending) ≡ stateAt arrangement S horizon st (suc t)
           unfolding stateAt
           state-next =
               same-state (worked .values-worked) (worked .last-worked) shown-next (worked .pending-worked)
               ∙ ap (λ x. tickOf arrangement S horizon t x .state) (G .state)
 
-          next-tick : BetweenTicks S st horizon buffer (suc t) (after .next) (after .pending) count values′ last′ shown′ store′ now′ places′
+          next-tick : BetweenTicks S st horizon buffer (suc t) (after .next) (after .pending) count values′ last′ shown′ starts store′ now′ places′
           next-tick =
               record {
                 within = h;
@@ -284,7 +290,7 @@ module _ {S : Sheet} {table delays times nodes levels watched : List ℕ} {st : 
               here u (no d) l = G .passed u (omega arith)
 
         pub told-next : {x : Step} {count : ℕ} (now′ shown′ places′ : List ℕ) → x ≡ Next count → Told x now′ shown′ places′
-            → BetweenTicks S st horizon buffer (suc t) (after .next) (after .pending) count values′ last′ shown′ store′ now′ places′
+            → BetweenTicks S st horizon buffer (suc t) (after .next) (after .pending) count values′ last′ shown′ starts store′ now′ places′
         told-next now′ shown′ places′ e l =
             let (fits, few, done) = subst (λ x. Told x now′ shown′ places′) e l in
             next-tick fits few done

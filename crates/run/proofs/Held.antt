@@ -17,7 +17,8 @@ use Rattle.model.specs.Passes.{moduleIn}
 use Rattle.model.specs.State.{delayedBelow}
 use Rattle.pending.specs.Kept.{arrangement}
 use Rattle.tick.specs.Tables.{modulesIn, driveIn}
-use Rattle.tick.specs.Rest.{Levels}
+use Rattle.tick.specs.Rest.{StartsIn, Levels}
+use Rattle.tick.proofs.Tables.{starts-of}
 use Rattle.load.specs.First.{firstOf}
 use Rattle.load.proofs.Begun.{loaded}
 use Rattle.run.specs.Ready.{kept, Ready}
@@ -56,9 +57,9 @@ module _ (contents : Contents) (acc : Accepted (heldSheet contents)) (h : Holds 
       (counted : delayed ≡ delayedBelow S (contents .counts .modules))
       (vs : (v : ℕ) → v < contents .counts .nodes → getD values v 0 ≡ firstOf (getD (contents .nodes) v 0)) (vl : Levels values)
       (ls : (k : ℕ) → k < contents .counts .modules → getD last k 0 ≡ getD values (moduleIn records k .output) 0) (ll : Levels last) where
-    pub ready : Ready S table delays times nodes levels (contents .watched) (kept values last (replicate 256 notShown) [] 0) horizon
+    pub ready : (starts : List ℕ) → StartsIn table starts (contents .counts .modules) → Ready S table delays times nodes levels (contents .watched) (kept values last (replicate 256 notShown) starts [] 0) horizon
         (record { modules = contents .counts .modules; delayed = delayed; events = contents .counts .events }) (contents .counts .watched)
-    ready =
+    ready starts ss =
         record {
           accepted = acc;
           some-tick = some;
@@ -71,5 +72,5 @@ module _ (contents : Contents) (acc : Accepted (heldSheet contents)) (h : Holds 
           watched-few = omega (arith, h .watched-count, acc .watched);
           begun =
               loaded S acc (contents .nodes) nodes-there records (rw (← h .module-count) ordered)
-              (λ v l. vs v (rw (h .node-count) l)) vl (λ k l. ls k (rw (h .module-count) l)) ll arrangement refl refl;
+              (λ v l. vs v (rw (h .node-count) l)) vl (λ k l. ls k (rw (h .module-count) l)) ll arrangement starts refl (rw (← ordered, ← put) (starts-of table delays (contents .counts .modules) starts ss)) refl;
         }

@@ -15,6 +15,7 @@ use sheet::Module;
 use sheet::NODES;
 use tick::Shape;
 use tick::TABLE;
+use tick::load_starts;
 ghost use mathlib.Core.Path.{_≡_};
 ghost use Prim.Native.Nat.{_<_, _≤_};
 ghost use lib.ListN.{length, take};
@@ -68,11 +69,14 @@ pub(crate) fn run_accepted(
     let mut shown = [NOT_SHOWN; NODES];
     let mut store = pending::empty();
     let gates = Level::tables();
+    let mut starts = [0u16; MODULES];
+    load_starts(&table, modules, &mut starts);
     ticks(
         shape,
         horizon,
         &gates,
         &table,
+        &starts,
         &delays,
         &times,
         &nodes,

@@ -28,6 +28,7 @@ pub(crate) fn ticks(
     horizon: u32,
     gates: &[u8],
     table: &[u8; TABLE],
+    starts: &[u16; MODULES],
     delays: &[u16; MODULES],
     times: &[u32; EVENTS],
     nodes: &[u8; EVENTS],
@@ -42,12 +43,13 @@ pub(crate) fn ticks(
 ) -> Answer
     requires { ⌜ ((S : Sheet)
         × Ready S (now table) (now delays) (now times) (now nodes) (now levels) (now watched)
-        (kept (now values) (now last) (now shown) (now store) 0) horizon shape count)
+        (kept (now values) (now last) (now shown) (now starts) (now store) 0) horizon shape count)
         × (now gates ≡ tables) × Sized (now store) ⌝ }
     ensures { λ r. ⌜ ((S : Sheet)
         → Ready S (now (table .entry)) (now (delays .entry)) (now (times .entry)) (now (nodes .entry)) (now (levels .entry))
         (now (watched .entry))
-        (kept (now (values .entry)) (now (last .entry)) (now (shown .entry)) (now (store .entry)) 0) horizon shape count
+        (kept (now (values .entry)) (now (last .entry)) (now (shown .entry)) (now (starts .entry)) (now (store .entry)) 0)
+        horizon shape count
         → Leaves (ranSheet S horizon (length (now (listing .entry)))) (now (listing .entry)) (outcomeOf r) (now (listing .exit))) ⌝ }
 {
     let mut t: u32 = 0;
@@ -63,6 +65,7 @@ pub(crate) fn ticks(
             t,
             gates,
             table,
+            starts,
             delays,
             times,
             nodes,

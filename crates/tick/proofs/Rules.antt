@@ -11,7 +11,7 @@ use Rattle.level.specs.Choice.{if_then_else_}
 use Rattle.level.specs.Gate.{member}
 use Rattle.level.specs.Rule.{inputsOf, comesTo}
 use Rattle.level.specs.Kind.{ruleOf}
-use Rattle.level.specs.Table.{tableStart, placeOf, tables}
+use Rattle.level.specs.Table.{startOf, placeOf, tables}
 use Rattle.level.proofs.Gates.{length-tables, values-take, same-inputs, length-used, gate-same, level-bound, Values, Tabled, entry-at}
 use Rattle.model.specs.Passes.{comesToNow}
 use Rattle.tick.specs.Tables.{tableAt, ruleAt, inputAtTable, comesToFrom, modulesIn}
@@ -36,6 +36,10 @@ entry-of-part g from i e h =
     let long = ap length e ∙ length-tables in
     getD-take (length g - from) (drop from g) i 0 (omega arith) ∙ getD-drop from g i 0 ∙ ap (λ (l : List ℕ). getD l (from + i) 0) e
 
+-- a place within a kind's table, counted from where that begins, is within the tables
+pub in-tables : (kind : ℕ) {n size : ℕ} → Tabled kind n size → (from i : ℕ) → from ≡ startOf kind → i < size → from + i < 488
+in-tables kind gate from i b h = omega (arith, gate .within)
+
 -- what a module of three inputs, of which its kind uses some, comes to
 module _ (kind parameter first second third held : ℕ) where
   abbrev inputs : List ℕ
@@ -56,10 +60,10 @@ module _ (kind parameter first second third held : ℕ) where
         (e, rw e (level-bound kind parameter _ held (λ z. let p = rw z at known .allowed in omega arith) (length-used kind parameter inputs (omega arith)) (values-take (inputsOf (ruleOf kind parameter)) inputs v) h))
 
     -- a gate of n inputs: the entry at its inputs' place
-    gate-of : {n start : ℕ} → Tabled kind n start → {r : ℕ} (from i : ℕ) → r ≡ getD tables (from + i) 0 → from ≡ tableStart kind → i ≡ placeOf (take n inputs) → Comes r
+    gate-of : {n size : ℕ} → Tabled kind n size → {r : ℕ} (from i : ℕ) → r ≡ getD tables (from + i) 0 → from ≡ startOf kind → i ≡ placeOf (take n inputs) → Comes r
     gate-of {n} gate from i e b p =
         e
-        ∙ rw (b, same-inputs kind parameter, gate .inputs, gate-same kind parameter (take n inputs) held (gate .has-table))
+        ∙ rw (b, gate .begins, same-inputs kind parameter, gate .inputs, gate-same kind parameter (take n inputs) held (gate .has-table))
         (entry-at gate (take n inputs) i (rw (gate .inputs) at (length-used kind 0 inputs (omega arith))) (values-take n inputs v) p)
 
 -- the same of a module whose bytes begin at a place of the table, by what is looked up there
@@ -82,7 +86,7 @@ module _ (table values : List ℕ) (at held : ℕ) (levels : Levels values) wher
   pub constant-at : {r : ℕ} → kindAt ≡ 0 → ((inputs : List ℕ) (held : ℕ) → r ≡ comesTo (ruleOf 0 (getD table (at + 1) 0)) inputs held) → ComesAt r
   constant-at = constant kindAt (getD table (at + 1) 0) (input 3) (input 4) (input 5) held
 
-  pub gate-at : {n start : ℕ} → Tabled kindAt n start → {r : ℕ} (from i : ℕ) → r ≡ getD tables (from + i) 0 → from ≡ tableStart kindAt → i ≡ placeOf (take n (input 3 ∷ input 4 ∷ input 5 ∷ [])) → ComesAt r
+  pub gate-at : {n size : ℕ} → Tabled kindAt n size → {r : ℕ} (from i : ℕ) → r ≡ getD tables (from + i) 0 → from ≡ startOf kindAt → i ≡ placeOf (take n (input 3 ∷ input 4 ∷ input 5 ∷ [])) → ComesAt r
   gate-at gate from i = gate-of kindAt (getD table (at + 1) 0) (input 3) (input 4) (input 5) held at-values gate from i
 
   pub memory-at : {a b : ℕ} {r : Bool} → a ≡ input 3 → b ≡ input 4 → kindAt ≡ 9 → r ≡ member (getD table (at + 1) 0) (b % 4) → ComesAt (if r then a else held)

@@ -15,8 +15,9 @@ use Rattle.sheet.proofs.Each.{each-same}
 use Rattle.sheet.proofs.Listed.{length-listed, getD-listed}
 use Rattle.model.specs.Drive.{eventIn}
 use Rattle.model.specs.Passes.{moduleIn}
+use Rattle.model.specs.Starts.{StartsOf}
 use Rattle.tick.specs.Tables.{tableAt, moduleAtTable, modulesIn, eventAtTable, driveIn, ModulePut, EventPut}
-use Rattle.tick.specs.Rest.{KnownIn, AllKnown}
+use Rattle.tick.specs.Rest.{KnownIn, AllKnown, StartsIn}
 
 module _ (table delays : List ℕ) (n : ℕ) where
   pub length-modules : length (modulesIn table delays n) ≡ n
@@ -29,6 +30,14 @@ module _ (table delays : List ℕ) (n : ℕ) where
 
   pub known-in : AllKnown (modulesIn table delays n) → KnownIn table n
   known-in all k h = rw (module-at k h) at (all k (rw length-modules h))
+
+  pub starts-in : (starts : List ℕ) → StartsOf (modulesIn table delays n) starts → StartsIn table starts n
+  starts-in starts all k h = rw (module-at k h) at (all k (rw length-modules h))
+
+  pub starts-of : (starts : List ℕ) → StartsIn table starts n → StartsOf (modulesIn table delays n) starts
+  starts-of starts all k h =
+      let b : k < n = rw length-modules at h in
+      rw (module-at k b) (all k b)
 
 module _ (ticks nodes levels : List ℕ) (n : ℕ) where
   pub length-drive : length (driveIn ticks nodes levels n) ≡ n

@@ -1,9 +1,10 @@
--- What the passes of a tick rest on: known modules, values 0 to 3, and a drive whose ticks do not fall.
+-- What the passes of a tick rest on: known modules, their kinds' starts, values 0 to 3, and a drive whose ticks do not fall.
 use mathlib.Core.List.{List, List·Memᴰ}
 use mathlib.Core.Path.{_≡_}
 use Prim.Native.Nat.{ℕ, _<_, _≤_}
 use lib.ListN.{length, getD}
 use Rattle.level.specs.Kind.{lastKind}
+use Rattle.level.specs.Table.{startOf}
 use Rattle.sheet.specs.declared.Module.{Module}
 use Rattle.sheet.specs.declared.Event.{Event}
 use Rattle.sheet.specs.Limits.{mostNodes, lastValue}
@@ -24,6 +25,10 @@ KnownIn table n = (k : ℕ) → k < n → Known (tableAt table k 0) (tableAt tab
 
 abbrev pub AllKnown : List Module → Type 0
 AllKnown modules = (k : ℕ) → k < length modules → Known (moduleIn modules k .kind) (moduleIn modules k .parameter)
+
+-- the starts of the first n modules of the table
+abbrev pub StartsIn : List ℕ → List ℕ → ℕ → Type 0
+StartsIn table starts n = (k : ℕ) → k < n → getD starts k 0 ≡ startOf (tableAt table k 0)
 
 -- the values of all nodes that there may be, or of as many modules
 pub record Levels (values : List ℕ) : Type 0 where

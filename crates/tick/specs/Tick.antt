@@ -5,6 +5,7 @@ use Prim.Native.Nat.{ℕ, suc, _<_, _≤_}
 use Rattle.sheet.specs.Limits.{mostModules, mostEvents, pendingLimit, greatestHorizon}
 use Rattle.model.specs.Drive.{nextEvent}
 use Rattle.model.specs.Passes.{Settled, Scheduled}
+use Rattle.model.specs.Starts.{StartsOf}
 use Rattle.model.specs.State.{State, Loaded, tick}
 use Rattle.pending.specs.Kept.{arrangement, keptIn, pendingRoom, Sized}
 use Rattle.tick.specs.Tables.{modulesIn, driveIn}
@@ -30,11 +31,12 @@ loadedIn table delays ticks nodes levels shape =
     }
 
 -- what a tick's work rests on
-pub record Workable (shape : Shape) (l : Loaded) (horizon t : ℕ) (values last store : List ℕ) (before : Carried) : Type 0 where
+pub record Workable (shape : Shape) (l : Loaded) (horizon t : ℕ) (values last starts store : List ℕ) (before : Carried) : Type 0 where
   pub few-modules : shape .modules ≤ mostModules
   pub few-delayed : shape .delayed ≤ shape .modules
   pub few-events : shape .events ≤ mostEvents
   pub known : AllKnown (l .modules)
+  pub starts-kept : StartsOf (l .modules) starts
   pub driving : Driving (l .drive)
   pub next : before .next ≡ nextEvent (l .drive) t
   pub few-pending : before .pending ≤ pendingLimit
@@ -45,10 +47,10 @@ pub record Workable (shape : Shape) (l : Loaded) (horizon t : ℕ) (values last 
   pub last-levels : Levels last
   pub store-size : Sized store
 
--- what is shown does not matter to it
+-- what is shown does not matter to it, nor does what is kept of the tables
 abbrev pub workedTick : Loaded → ℕ → ℕ → List ℕ → List ℕ → arrangement .Kept → State arrangement
 workedTick l horizon t values last pending =
-    tick arrangement l horizon t (record { values = values; last = last; shown = []; pending = pending }) .state
+    tick arrangement l horizon t (record { values = values; last = last; shown = []; starts = []; pending = pending }) .state
 
 -- the arrays after a tick's work, and what stands then
 pub record Worked (l : Loaded) (horizon t : ℕ) (values last : List ℕ) (pending : arrangement .Kept)

@@ -1,9 +1,10 @@
 // What a module comes to, and where it goes.
 use crate::TABLE;
 use level::CONSTANT;
-use level::LAST_OF_ONE;
 use level::Level;
-use level::MEMORY;
+use level::NO_TABLE;
+use level::START_OF_THREE;
+use level::START_OF_TWO;
 use sheet::MODULES;
 use sheet::NODES;
 use sheet::wide;
@@ -11,7 +12,7 @@ ghost use mathlib.Core.List.{List};
 ghost use mathlib.Core.Path.{_≡_};
 ghost use Prim.Native.Nat.{ℕ, _+_, _<_};
 ghost use lib.ListN.{getD};
-ghost use Rattle.level.specs.Table.{tables};
+ghost use Rattle.level.specs.Table.{startOf, tables};
 ghost use Rattle.sheet.specs.Limits.{mostModules};
 ghost use Rattle.model.specs.Passes.{moduleIn, give, comesToNow};
 ghost use Rattle.tick.specs.Tables.{tableSize, tableAt, modulesIn, comesToFrom};
@@ -25,40 +26,48 @@ fn input_at(table: &[u8; TABLE], at: usize, values: &[u8; NODES]) -> u8
     values[wide(table[at])]
 }
 
-// An entry of a table, counted from the table's start. It is read in the part from there on, and not at a sum: the start depends on the
-// kind alone, so that a chain of gates waits for one load a gate.
-fn entry(gates: &[u8], start: usize, i: usize) -> u8
+// An entry of a table, counted from the table's start. It is read in the part from there on, and not at a sum: the start is known before
+// the inputs are, so that a chain of gates waits for one load a gate.
+fn entry(gates: &[u8], start: u16, i: usize) -> u8
     requires { ⌜ (now gates ≡ tables) × (start + i < 488) ⌝ }
     ensures { λ r. ⌜ r ≡ getD tables (start + i) 0 ⌝ }
 {
-    let row = &gates[start..];
+    let row = &gates[start as usize..];
     row[i]
 }
 
 // What the module whose bytes begin at a place of the table comes to over the present values, holding the value that it came to last.
-// The second and the third input are looked up for kinds that use them alone. Kinds 0 to 2 are told apart first, which is faster.
-fn rule(gates: &[u8], table: &[u8; TABLE], at: usize, values: &[u8; NODES], held: u8) -> u8
+// Its kind's start is given: it tells how many inputs a gate has, and the place of their values in its table is all that is worked out
+// here. The second and the third input are looked up for kinds that use them alone. Gates of one input are told apart first, which is
+// faster; a kind is read where it has no table.
+fn rule(
+    gates: &[u8],
+    table: &[u8; TABLE],
+    at: usize,
+    start: u16,
+    values: &[u8; NODES],
+    held: u8,
+) -> u8
     requires { ⌜ (at + 5 < tableSize) × (now gates ≡ tables) × Known (getD (now table) at 0) (getD (now table) (at + 1) 0)
-        × Levels (now values) × (held < 4) ⌝ }
+        × Levels (now values) × (held < 4) × (start ≡ startOf (getD (now table) at 0)) ⌝ }
     ensures { λ r. ⌜ (r ≡ comesToFrom (now (table .entry)) at (now (values .entry)) held) × (r < 4) ⌝ }
 {
-    let kind = table[at];
     let first = input_at(table, at + 3, values);
-    if kind <= LAST_OF_ONE {
-        if kind == CONSTANT {
-            return Level::constant(table[at + 1]);
-        }
-        return entry(gates, Level::start_of_one(kind), wide(first));
+    if start < START_OF_TWO {
+        return entry(gates, start, wide(first));
     }
     let second = input_at(table, at + 4, values);
-    if kind < MEMORY {
+    if start < START_OF_THREE {
         let place = 4 * wide(first) + wide(second);
-        return entry(gates, Level::start_of_two(kind), place);
+        return entry(gates, start, place);
     }
-    if MEMORY < kind {
+    if start < NO_TABLE {
         let third = input_at(table, at + 5, values);
         let place = 16 * wide(first) + 4 * wide(second) + wide(third);
-        return entry(gates, Level::start_of_three(kind), place);
+        return entry(gates, start, place);
+    }
+    if table[at] == CONSTANT {
+        return Level::constant(table[at + 1]);
     }
     if Level::in_set(table[at + 1], second) {
         first
@@ -67,21 +76,22 @@ fn rule(gates: &[u8], table: &[u8; TABLE], at: usize, values: &[u8; NODES], held
     }
 }
 
-// What the module at position k comes to over the present values, holding the value that it came to last.
+// What the module at position k comes to over the present values, holding the value that it came to last. Its kind's start is kept.
 pub(crate) fn comes_to(
     gates: &[u8],
     table: &[u8; TABLE],
+    starts: &[u16; MODULES],
     k: usize,
     values: &[u8; NODES],
     last: &[u8; MODULES],
 ) -> u8
     requires { ⌜ (k < mostModules) × (now gates ≡ tables) × Known (tableAt (now table) k 0) (tableAt (now table) k 1) × Levels (now values)
-        × Levels (now last) ⌝ }
+        × Levels (now last) × (getD (now starts) k 0 ≡ startOf (tableAt (now table) k 0)) ⌝ }
     ensures { λ r. ⌜ ((delays : List ℕ) (n : ℕ) → k < n
         → r ≡ comesToNow (modulesIn (now (table .entry)) delays n) (now (values .entry)) (now (last .entry)) k)
         × (r < 4) ⌝ }
 {
-    rule(gates, table, 8 * k, values, last[k])
+    rule(gates, table, 8 * k, starts[k], values, last[k])
 }
 
 // What the module at position k contributes reaches its output node here, and nowhere else.

@@ -6,12 +6,13 @@ use sheet::MODULES;
 use sheet::NODES;
 ghost use mathlib.Core.Path.{_≡_};
 ghost use Prim.Native.Nat.{ℕ, _+_, _<_, _≤_};
-ghost use Rattle.level.specs.Table.{tables};
+ghost use lib.ListN.{getD};
+ghost use Rattle.level.specs.Table.{startOf, tables};
 ghost use Rattle.sheet.specs.Limits.{greatestHorizon, mostModules};
 ghost use Rattle.model.specs.Passes.{scheduleOne, schedule};
 ghost use Rattle.pending.specs.Kept.{arrangement, keptIn, pendingRoom, Sized};
 ghost use Rattle.tick.specs.Tables.{tableAt, modulesIn};
-ghost use Rattle.tick.specs.Rest.{Known, KnownIn, Levels};
+ghost use Rattle.tick.specs.Rest.{Known, KnownIn, StartsIn, Levels};
 ghost use Rattle.tick.specs.Tick.{scheduled};
 
 // A 16-bit number as a 32-bit one: below 65536 without more ado.
@@ -25,6 +26,7 @@ fn wide16(x: u16) -> u32
 fn schedule_one(
     gates: &[u8],
     table: &[u8; TABLE],
+    starts: &[u16; MODULES],
     delays: &[u16; MODULES],
     k: usize,
     t: u32,
@@ -35,13 +37,14 @@ fn schedule_one(
     count: usize,
 ) -> usize
     requires { ⌜ (k < mostModules) × (now gates ≡ tables) × Known (tableAt (now table) k 0) (tableAt (now table) k 1) × (t < horizon)
-        × (horizon ≤ greatestHorizon) × Levels (now values) × Levels (now last) × Sized (now store) × (count < pendingRoom) ⌝ }
+        × (horizon ≤ greatestHorizon) × Levels (now values) × Levels (now last) × Sized (now store) × (count < pendingRoom)
+        × (getD (now starts) k 0 ≡ startOf (tableAt (now table) k 0)) ⌝ }
     ensures { λ r. ⌜ ((n : ℕ) → k < n → scheduled (now (last .exit)) (keptIn (now (store .exit)) r)
         ≡ scheduleOne arrangement (modulesIn (now (table .entry)) (now (delays .entry)) n) t horizon (now (values .entry))
         (scheduled (now (last .entry)) (keptIn (now (store .entry)) count)) k)
         × (r ≤ count + 1) × Sized (now (store .exit)) × Levels (now (last .exit)) ⌝ }
 {
-    let value = comes_to(gates, table, k, values, &*last);
+    let value = comes_to(gates, table, starts, k, values, &*last);
     if value == last[k] {
         return count;
     }
@@ -57,6 +60,7 @@ fn schedule_one(
 pub(crate) fn schedule_all(
     gates: &[u8],
     table: &[u8; TABLE],
+    starts: &[u16; MODULES],
     delays: &[u16; MODULES],
     n: usize,
     t: u32,
@@ -67,7 +71,7 @@ pub(crate) fn schedule_all(
     count: usize,
 ) -> usize
     requires { ⌜ (n ≤ mostModules) × (now gates ≡ tables) × KnownIn (now table) n × (t < horizon) × (horizon ≤ greatestHorizon)
-        × Levels (now values) × Levels (now last) × Sized (now store) × (count + n ≤ pendingRoom) ⌝ }
+        × Levels (now values) × Levels (now last) × Sized (now store) × (count + n ≤ pendingRoom) × StartsIn (now table) (now starts) n ⌝ }
     ensures { λ r. ⌜ ((modules : ℕ) → n ≤ modules → scheduled (now (last .exit)) (keptIn (now (store .exit)) r)
         ≡ schedule arrangement (modulesIn (now (table .entry)) (now (delays .entry)) modules) t horizon (now (values .entry)) n
         (scheduled (now (last .entry)) (keptIn (now (store .entry)) count)))
@@ -76,7 +80,19 @@ pub(crate) fn schedule_all(
     let mut k: usize = 0;
     let mut c = count;
     while k < n {
-        c = schedule_one(gates, table, delays, k, t, horizon, values, last, store, c);
+        c = schedule_one(
+            gates,
+            table,
+            starts,
+            delays,
+            k,
+            t,
+            horizon,
+            values,
+            last,
+            store,
+            c,
+        );
         k += 1;
     }
     c

@@ -12,6 +12,7 @@ use crate::due::give_due;
 use crate::events::drive_all;
 pub use crate::load::load_event;
 pub use crate::load::load_module;
+pub use crate::load::load_starts;
 use crate::zero_delay::settle_all;
 use pending::Store;
 use sheet::EVENTS;
@@ -45,6 +46,7 @@ pub fn work(
     t: u32,
     gates: &[u8],
     table: &[u8; TABLE],
+    starts: &[u16; MODULES],
     delays: &[u16; MODULES],
     ticks: &[u32; EVENTS],
     nodes: &[u8; EVENTS],
@@ -55,7 +57,7 @@ pub fn work(
     before: Carried,
 ) -> Carried
     requires { ⌜ Workable shape (loadedIn (now table) (now delays) (now ticks) (now nodes) (now levels) shape) horizon t
-        (now values) (now last) (now store) before
+        (now values) (now last) (now starts) (now store) before
         × (now gates ≡ tables) ⌝ }
     ensures { λ r. ⌜ Worked
         (loadedIn (now (table .entry)) (now (delays .entry)) (now (ticks .entry)) (now (nodes .entry)) (now (levels .entry)) shape)
@@ -66,10 +68,11 @@ pub fn work(
     let modules = shape.modules;
     let next = drive_all(ticks, nodes, levels, shape.events, before.next, t, values);
     let kept = give_due(table, t, store, before.pending, values);
-    settle_all(gates, table, delayed, modules, values, last);
+    settle_all(gates, table, starts, delayed, modules, values, last);
     let count = schedule_all(
         gates,
         table,
+        starts,
         delays,
         delayed,
         t,

@@ -1,14 +1,17 @@
-// The tables' layout: a module's record, and an event's, put to its place. An array of structs cannot be lent, so each part has an array.
+// The tables' layout: a module's record, and an event's, put to its place; and the starts of the modules that stand there. An array of
+// structs cannot be lent, so each part has an array.
 use crate::TABLE;
+use level::Level;
 use sheet::EVENTS;
 use sheet::Event;
 use sheet::MODULES;
 use sheet::Module;
 ghost use mathlib.Core.Path.{_≡_};
-ghost use Prim.Native.Nat.{_<_};
+ghost use Prim.Native.Nat.{_<_, _≤_};
 ghost use lib.ListN.{length};
 ghost use Rattle.sheet.specs.Limits.{mostModules, mostEvents};
 ghost use Rattle.tick.specs.Tables.{tableSize, ModulePut, EventPut};
+ghost use Rattle.tick.specs.Rest.{StartsIn};
 
 // Puts a module's record to position k.
 pub fn load_module(m: Module, k: usize, table: &mut [u8; TABLE], delays: &mut [u16; MODULES])
@@ -23,6 +26,18 @@ pub fn load_module(m: Module, k: usize, table: &mut [u8; TABLE], delays: &mut [u
     table[at + 4] = m.second;
     table[at + 5] = m.third;
     delays[k] = m.delay;
+}
+
+// Works out the starts of the kinds of the first n modules, once for all ticks.
+pub fn load_starts(table: &[u8; TABLE], n: usize, starts: &mut [u16; MODULES])
+    requires { ⌜ (n ≤ mostModules) × (length (now starts) ≡ mostModules) ⌝ }
+    ensures { λ _. ⌜ StartsIn (now (table .entry)) (now (starts .exit)) n ⌝ }
+{
+    let mut k: usize = 0;
+    while k < n {
+        starts[k] = Level::start(table[8 * k]);
+        k += 1;
+    }
 }
 
 // Puts an event's record under number e.

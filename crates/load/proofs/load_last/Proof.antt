@@ -7,8 +7,7 @@ use borrow.Author.Needs.{needs}
 use lib.ListN.{getD}
 use Rattle.model.specs.Passes.{moduleIn}
 use Rattle.tick.specs.Rest.{Levels}
-use Rattle.tick.proofs.Values.{levels-set}
-use Rattle.load.proofs.Loading.{filled-more}
+use Rattle.tick.proofs.Values.{levels-set, filled-more}
 use Rattle.load.proofs.load_last.Statement.{statement}
 use Rattle.load.proofs.load_last.Tie as tie
 

@@ -5,9 +5,8 @@ use native.Mathlib.Nat.{not-suc-le-zero}
 use native.Mathlib.Omega.{arith}
 use lib.ListN.{getD}
 use Rattle.tick.specs.Rest.{Levels}
-use Rattle.tick.proofs.Values.{levels-set}
+use Rattle.tick.proofs.Values.{levels-set, filled-more}
 use Rattle.load.specs.First.{firstOf}
-use Rattle.load.proofs.Loading.{filled-more}
 use Rattle.load.proofs.load_values.Statement.{statement}
 use Rattle.load.proofs.load_values.Tie as tie
 

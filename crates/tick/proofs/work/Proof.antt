@@ -2,7 +2,7 @@
 use native.Mathlib.Omega.{arith}
 use Rattle.pending.specs.Kept.{keptIn}
 use Rattle.tick.specs.Tick.{loadedIn}
-use Rattle.tick.proofs.Tables.{length-modules, known-in}
+use Rattle.tick.proofs.Tables.{length-modules, known-in, starts-in}
 use Rattle.tick.proofs.Worked.{worked}
 use borrow.Author.Needs.{needs}
 use Rattle.tick.proofs.work.Statement.{statement}
@@ -18,7 +18,7 @@ settle-all-requires : tie.Need-settle-all-requires
 settle-all-requires c κs =
     let b = c .before .before .before .before .before .before .before in
     let p = b .before .pre .0 in
-    (p .few-delayed, p .few-modules, b .before .pre .1, known-in (b .before .args .table .now) (b .before .args .delays .now) (b .before .args .shape .modules) (p .known), c .before .before .give-due .ensures .4, p .last-levels)
+    (p .few-delayed, p .few-modules, b .before .pre .1, known-in (b .before .args .table .now) (b .before .args .delays .now) (b .before .args .shape .modules) (p .known), c .before .before .give-due .ensures .4, p .last-levels, starts-in (b .before .args .table .now) (b .before .args .delays .now) (b .before .args .shape .modules) (b .before .args .starts .now) (p .starts-kept))
 
 schedule-all-requires : tie.Need-schedule-all-requires
 schedule-all-requires c κs =
@@ -27,7 +27,8 @@ schedule-all-requires c κs =
     let g = c .before .before .before .before .before .before .give-due .ensures in
     let z = c .before .before .before .settle-all .ensures in
     let known = known-in (b .before .args .table .now) (b .before .args .delays .now) (b .before .args .shape .modules) (p .known) in
-    (omega (arith, p .few-modules, p .few-delayed), b .before .pre .1, λ k h. known k (omega (arith, p .few-delayed)), p .below, p .few-ticks, z .1, z .2, g .3, omega (arith, p .few-modules, p .few-delayed, p .few-pending, g .2))
+    let starts = starts-in (b .before .args .table .now) (b .before .args .delays .now) (b .before .args .shape .modules) (b .before .args .starts .now) (p .starts-kept) in
+    (omega (arith, p .few-modules, p .few-delayed), b .before .pre .1, λ k h. known k (omega (arith, p .few-delayed)), p .below, p .few-ticks, z .1, z .2, g .3, omega (arith, p .few-modules, p .few-delayed, p .few-pending, g .2), λ k h. starts k (omega (arith, p .few-delayed)))
 
 returns : tie.Need-returns
 returns c =

@@ -12,19 +12,19 @@ use Rattle.run.proofs.ticks.ticks.Statement.{statement}
 use Rattle.run.proofs.ticks.ticks.Tie as tie
 
 abbrev Inv-loop : tie.InvT-loop
-Inv-loop shape horizon gates table delays times nodes levels watched count values₀ last₀ shown₀ store₀ listing₀ t₀ next₀ due₀ n₀ places₀ values last shown store listing t next due n places =
-    ((S : Sheet) × Ready S table delays times nodes levels watched (kept values₀ last₀ shown₀ store₀ 0) horizon shape count)
-    × ((S : Sheet) → Ready S table delays times nodes levels watched (kept values₀ last₀ shown₀ store₀ 0) horizon shape count
-    → BetweenTicks S (kept values₀ last₀ shown₀ store₀ 0) horizon listing₀ t next due n values last shown store listing places)
+Inv-loop shape horizon gates table starts delays times nodes levels watched count values₀ last₀ shown₀ store₀ listing₀ t₀ next₀ due₀ n₀ places₀ values last shown store listing t next due n places =
+    ((S : Sheet) × Ready S table delays times nodes levels watched (kept values₀ last₀ shown₀ starts store₀ 0) horizon shape count)
+    × ((S : Sheet) → Ready S table delays times nodes levels watched (kept values₀ last₀ shown₀ starts store₀ 0) horizon shape count
+    → BetweenTicks S (kept values₀ last₀ shown₀ starts store₀ 0) horizon listing₀ t next due n values last shown starts store listing places)
 
 abbrev μ-loop : tie.MeasureT-loop
-μ-loop shape horizon gates table delays times nodes levels watched count values₀ last₀ shown₀ store₀ listing₀ t₀ next₀ due₀ n₀ places₀ values last shown store listing t next due n places = horizon - t
+μ-loop shape horizon gates table starts delays times nodes levels watched count values₀ last₀ shown₀ store₀ listing₀ t₀ next₀ due₀ n₀ places₀ values last shown store listing t next due n places = horizon - t
 
 loop-holds : tie.Need-loop-holds Inv-loop μ-loop
 loop-holds c =
     let p = c .before .before .pre in
     let a = c .before .before .args in
-    (p .0, λ S R. start R (a .values .now) (a .last .now) (a .shown .now) (a .store .now) refl (p .2) (a .listing .now))
+    (p .0, λ S R. start R (a .values .now) (a .last .now) (a .shown .now) (a .starts .now) (a .store .now) refl (p .2) (a .listing .now))
 
 work-requires : tie.Need-work-requires Inv-loop μ-loop
 work-requires c κs =

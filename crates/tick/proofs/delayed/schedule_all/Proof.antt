@@ -12,11 +12,11 @@ use Rattle.tick.proofs.delayed.schedule_all.Statement.{statement}
 use Rattle.tick.proofs.delayed.schedule_all.Tie as tie
 
 abbrev Inv-loop : tie.InvT-loop
-Inv-loop gates table delays n t horizon values last₀ store₀ count k₀ c₀ last store k c =
+Inv-loop gates table starts delays n t horizon values last₀ store₀ count k₀ c₀ last store k c =
     (k ≤ n) × (c ≤ count + k) × ((modules : ℕ) → n ≤ modules → scheduled last (keptIn store c) ≡ schedule arrangement (modulesIn table delays modules) t horizon values k (scheduled last₀ (keptIn store₀ count))) × (Sized store) × Levels last
 
 abbrev μ-loop : tie.MeasureT-loop
-μ-loop gates table delays n t horizon values last₀ store₀ count k₀ c₀ last store k c = n - k
+μ-loop gates table starts delays n t horizon values last₀ store₀ count k₀ c₀ last store k c = n - k
 
 loop-holds : tie.Need-loop-holds Inv-loop μ-loop
 loop-holds c = (omega arith, omega arith, λ modules h. none-scheduled _ _ _ _ _, c .before .pre .7, c .before .pre .6)
@@ -25,7 +25,7 @@ schedule-one-requires : tie.Need-schedule-one-requires Inv-loop μ-loop
 schedule-one-requires c κs =
     let t = c .before .before .before in
     let p = t .before .before .pre in
-    (omega arith, p .1, p .2 (t .loop .k) (omega arith), p .3, p .4, p .5, t .loop .inv .4, t .loop .inv .3, omega arith)
+    (omega arith, p .1, p .2 (t .loop .k) (omega arith), p .3, p .4, p .5, t .loop .inv .4, t .loop .inv .3, omega arith, p .9 (t .loop .k) (omega arith))
 
 add-k : tie.Need-add-k Inv-loop μ-loop
 add-k c = omega arith

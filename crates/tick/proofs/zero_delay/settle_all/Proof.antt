@@ -12,11 +12,11 @@ use Rattle.tick.proofs.zero_delay.settle_all.Statement.{statement}
 use Rattle.tick.proofs.zero_delay.settle_all.Tie as tie
 
 abbrev Inv-loop : tie.InvT-loop
-Inv-loop gates table from to values₀ last₀ k₀ values last k =
+Inv-loop gates table starts from to values₀ last₀ k₀ values last k =
     (from ≤ k) × (k ≤ to) × ((delays : List ℕ) → settled values last ≡ settle (modulesIn table delays to) from (k - from) (settled values₀ last₀)) × Levels values × Levels last
 
 abbrev μ-loop : tie.MeasureT-loop
-μ-loop gates table from to values₀ last₀ k₀ values last k = to - k
+μ-loop gates table starts from to values₀ last₀ k₀ values last k = to - k
 
 loop-holds : tie.Need-loop-holds Inv-loop μ-loop
 loop-holds c = (omega arith, omega arith, λ delays. none-settled _ _ _, c .before .pre .4, c .before .pre .5)
@@ -25,7 +25,7 @@ settle-one-requires : tie.Need-settle-one-requires Inv-loop μ-loop
 settle-one-requires c κs =
     let t = c .before .before .before in
     let p = t .before .before .pre in
-    (omega arith, p .2, p .3 (t .loop .k) (omega arith), t .loop .inv .3, t .loop .inv .4)
+    (omega arith, p .2, p .3 (t .loop .k) (omega arith), t .loop .inv .3, t .loop .inv .4, p .6 (t .loop .k) (omega arith))
 
 add-k : tie.Need-add-k Inv-loop μ-loop
 add-k c = omega arith
