@@ -162,26 +162,22 @@ again (hold set) l h = twice (set (inputAt l 1))
     twice true = refl
     twice false = refl
 
--- a kind whose start tells that it has a table: of so many entries, how many inputs it uses, and that its table is within the tables
+-- a kind whose start tells that it has a table: how many inputs it uses, and that so many entries from its start on are within the tables
 pub record Tabled (kind n size : ℕ) : Type 0 where
   pub has-table : T (tabled kind)
   pub inputs : inputsOf (ruleOf kind 0) ≡ n
-  pub begins : startOf kind ≡ tableStart kind
   pub within : startOf kind + size ≤ 488
 
 module _ (n size from to : ℕ) where
   abbrev uses : ℕ → Bool
   uses k = eqb (inputsOf (ruleOf k 0)) n
 
-  abbrev starts : ℕ → Bool
-  starts k = eqb (startOf k) (tableStart k)
-
   abbrev ends : ℕ → Bool
   ends k = leb (startOf k + size) 488
 
   -- what a start from here to there tells
   abbrev told : ℕ → Bool
-  told k = if ltb (startOf k) to then if ltb (startOf k) from then true else tabled k && (uses k && (starts k && ends k)) else true
+  told k = if ltb (startOf k) to then if ltb (startOf k) from then true else tabled k && (uses k && ends k) else true
 
   tells : T (allBelow 16 told) → to ≤ 488 → (k : ℕ) → from ≤ startOf k → startOf k < to → Tabled k n size
   tells t e k l h = by (ltb k 16) refl
@@ -189,14 +185,8 @@ module _ (n size from to : ℕ) where
       by : (b : Bool) → ltb k 16 ≡ b → Tabled k n size
       by true i =
           let test = rw (lt-ltb (startOf k) to h, le-ltb (startOf k) from l) at (below 16 told t k (ltb-true k 16 i)) in
-          let rest = and-r (tabled k) (uses k && (starts k && ends k)) test in
-          let last = and-r (uses k) (starts k && ends k) rest in
-          record {
-            has-table = and-l (tabled k) (uses k && (starts k && ends k)) test;
-            inputs = eqb→eq _ _ (and-l (uses k) (starts k && ends k) rest);
-            begins = eqb→eq _ _ (and-l (starts k) (ends k) last);
-            within = leb→le _ _ (and-r (starts k) (ends k) last);
-          }
+          let rest = and-r (tabled k) (uses k && ends k) test in
+          record { has-table = and-l (tabled k) (uses k && ends k) test; inputs = eqb→eq _ _ (and-l (uses k) (ends k) rest); within = leb→le _ _ (and-r (uses k) (ends k) rest) }
       by false i = absurd (omega (arith, no-kind k (ltb-false k 16 i)))
 
 -- the starts below 8 are those of gates of one input, then come those of two, and from 104 on those of three
@@ -213,7 +203,7 @@ of-three k l h = tells 3 64 104 488 tt (omega arith) k l h
 pub of-none : (k : ℕ) → k < 16 → 488 ≤ startOf k → (k ≡ 0 → ⊥) → k ≡ 9
 of-none k h l ne = eqb→eq _ _ (rw (le-ltb (startOf k) 488 l, ne-eqb k 0 ne) at (below 16 (λ k. if ltb (startOf k) 488 then true else if eqb k 0 then true else eqb k 9) tt k h))
 
--- an entry of such a kind's table
+-- an entry of such a kind's table, counted from the kind's start
 pub entry-at : {kind n size : ℕ} → Tabled kind n size → (inputs : List ℕ) (place : ℕ) → length inputs ≡ n → Values inputs → place ≡ placeOf inputs
-    → getD tables (tableStart kind + place) 0 ≡ comesTo (ruleOf kind 0) inputs 0
-entry-at {kind} t inputs place e v p = ap (λ i. getD tables (tableStart kind + i) 0) p ∙ gate-entry kind inputs (t .has-table) (e ∙ sym (t .inputs)) v
+    → getD tables (startOf kind + place) 0 ≡ comesTo (ruleOf kind 0) inputs 0
+entry-at {kind} t inputs place e v p = rw (has-start kind (t .has-table), p) (gate-entry kind inputs (t .has-table) (e ∙ sym (t .inputs)) v)

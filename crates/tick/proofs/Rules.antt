@@ -63,7 +63,7 @@ module _ (kind parameter first second third held : ℕ) where
     gate-of : {n size : ℕ} → Tabled kind n size → {r : ℕ} (from i : ℕ) → r ≡ getD tables (from + i) 0 → from ≡ startOf kind → i ≡ placeOf (take n inputs) → Comes r
     gate-of {n} gate from i e b p =
         e
-        ∙ rw (b, gate .begins, same-inputs kind parameter, gate .inputs, gate-same kind parameter (take n inputs) held (gate .has-table))
+        ∙ rw (b, same-inputs kind parameter, gate .inputs, gate-same kind parameter (take n inputs) held (gate .has-table))
         (entry-at gate (take n inputs) i (rw (gate .inputs) at (length-used kind 0 inputs (omega arith))) (values-take n inputs v) p)
 
 -- the same of a module whose bytes begin at a place of the table, by what is looked up there

@@ -28,7 +28,7 @@ returns c =
     let a = c .before .before .args in
     let f : a .first % 4 < 4 = mod-lt _ (lit< tt) in
     let k = of-one (a .kind) (omega (arith, c .if1 .taken, c .before .start .ensures)) in
-    rw (c .before .start .ensures, k .begins, k .inputs) (entry-at k _ _ (omega arith) (f, tt) (omega arith))
+    rw (c .before .start .ensures, k .inputs) (entry-at k _ _ (omega arith) (f, tt) (omega arith))
 
 array-read-result-2 : tie.Need-array-read-result-2
 array-read-result-2 c =
@@ -45,7 +45,7 @@ returns-2 c =
     let f : a .first % 4 < 4 = mod-lt _ (lit< tt) in
     let s : a .second % 4 < 4 = mod-lt _ (lit< tt) in
     let k = of-two (a .kind) (omega (arith, c .before .if1 .left, c .before .before .start .ensures)) (omega (arith, c .if2 .taken, c .before .before .start .ensures)) in
-    rw (add-assoc, c .before .before .start .ensures, k .begins, k .inputs) (entry-at k _ _ (omega arith) (f, (s, tt)) (omega arith))
+    rw (add-assoc, c .before .before .start .ensures, k .inputs) (entry-at k _ _ (omega arith) (f, (s, tt)) (omega arith))
 
 array-read-result-3 : tie.Need-array-read-result-3
 array-read-result-3 c =
@@ -64,7 +64,7 @@ returns-3 c =
     let s : a .second % 4 < 4 = mod-lt _ (lit< tt) in
     let t : a .third % 4 < 4 = mod-lt _ (lit< tt) in
     let k = of-three (a .kind) (omega (arith, c .before .if2 .left, c .before .before .before .start .ensures)) (omega (arith, c .if3 .taken, c .before .before .before .start .ensures)) in
-    rw (add-assoc, add-assoc, c .before .before .before .start .ensures, k .begins, k .inputs) (entry-at k _ _ (omega arith) (f, (s, (t, tt))) (omega arith))
+    rw (add-assoc, add-assoc, c .before .before .before .start .ensures, k .inputs) (entry-at k _ _ (omega arith) (f, (s, (t, tt))) (omega arith))
 
 returns-4 : tie.Need-returns-4
 returns-4 c = rw (c .if4 .taken)
