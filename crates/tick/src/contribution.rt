@@ -61,19 +61,18 @@ fn rule(
         let place = 4 * wide(first) + wide(second);
         return entry(gates, start, place);
     }
-    if start < NO_TABLE {
-        let third = input_at(table, at + 5, values);
-        let place = 16 * wide(first) + 4 * wide(second) + wide(third);
-        return entry(gates, start, place);
+    if NO_TABLE <= start {
+        if table[at] == CONSTANT {
+            return Level::constant(table[at + 1]);
+        }
+        if Level::in_set(table[at + 1], second) {
+            return first;
+        }
+        return held;
     }
-    if table[at] == CONSTANT {
-        return Level::constant(table[at + 1]);
-    }
-    if Level::in_set(table[at + 1], second) {
-        first
-    } else {
-        held
-    }
+    let third = input_at(table, at + 5, values);
+    let place = 16 * wide(first) + 4 * wide(second) + wide(third);
+    entry(gates, start, place)
 }
 
 // What the module at position k comes to over the present values, holding the value that it came to last. Its kind's start is kept.
