@@ -1,25 +1,25 @@
 //! The sheet's modules and the gates' rules, laid out for the run.
 
-use generate::sheets::{AND_3, BUFFER, CONSTANT, INVERTER, MEMORY, MULTIPLEXER};
+use generate::sheets::{AND, AND_3, BUFFER, CONSTANT, MEMORY};
 use plain::{in_set, rule, Sheet};
 
 use super::order::in_working_order;
 
-/// How many kinds have three inputs.
-const OF_THREE: usize = (MULTIPLEXER - AND_3 + 1) as usize;
+/// Where the rules of two inputs begin, those of three, and where all end.
+const START_OF_TWO: u16 = 8;
+const START_OF_THREE: u16 = 104;
+const NO_TABLE: u16 = 488;
 
 /// The bytes of a module: kind, parameter, output, the three inputs, and two unused.
 pub type Bytes = [u8; 8];
 
 pub struct Tables {
-    /// The rules of the gates of one and two inputs, at 16 times the kind and 4 times the first input's
-    /// value and the second's.
-    gates: [u8; 256],
-    /// Those of three inputs, at 64 times the kind from the first of them on, and 16 times the first
-    /// input's value, 4 times the second's and the third's.
-    of_three: [u8; 64 * OF_THREE],
+    /// The gates' rules, kind after kind, the first input's value counting most.
+    gates: [u8; NO_TABLE as usize],
     /// The modules in working order.
     modules: Vec<Bytes>,
+    /// Where the rule of each module's kind begins.
+    starts: Vec<u16>,
     delays: Vec<u16>,
     /// How many of them are delayed. They stand first.
     delayed: usize,
@@ -42,8 +42,8 @@ impl Tables {
         });
         Tables {
             gates: std::array::from_fn(gate),
-            of_three: std::array::from_fn(gate_of_three),
             modules: bytes.collect(),
+            starts: order.iter().map(|module| start(module.kind)).collect(),
             delays: order.iter().map(|module| module.delay).collect(),
             delayed: order.iter().filter(|module| module.delay > 0).count(),
         }
@@ -59,54 +59,78 @@ impl Tables {
         self.modules[position][2]
     }
 
-    /// The delayed modules with their delays.
-    pub fn delayed(&self) -> impl Iterator<Item = (&Bytes, u16)> {
-        let delays = self.delays.iter().copied();
-        self.modules[..self.delayed].iter().zip(delays)
+    /// The delayed modules with their starts and delays.
+    pub fn delayed(&self) -> impl Iterator<Item = (&Bytes, u16, u16)> {
+        let modules = self.modules[..self.delayed].iter();
+        let kept = self.starts.iter().zip(&self.delays);
+        modules
+            .zip(kept)
+            .map(|(module, (&start, &delay))| (module, start, delay))
     }
 
-    /// The modules of delay zero, and the position of the first.
-    pub fn zero_delay(&self) -> (usize, &[Bytes]) {
-        (self.delayed, &self.modules[self.delayed..])
+    /// The modules of delay zero with their starts, and the position of the first.
+    pub fn zero_delay(&self) -> (usize, impl Iterator<Item = (&Bytes, u16)>) {
+        let starts = self.starts[self.delayed..].iter().copied();
+        (
+            self.delayed,
+            self.modules[self.delayed..].iter().zip(starts),
+        )
     }
 
-    /// What a module comes to over the values, holding the value that it came to last. Its third input is
-    /// looked up for a gate of three inputs alone.
-    pub fn comes_to(&self, module: &Bytes, values: &[u8; 256], held: u8) -> u8 {
+    /// What a module comes to over the values, holding the value that it came to last. Its start tells how
+    /// many inputs are looked up; its kind is looked at where it has no table.
+    pub fn comes_to(&self, module: &Bytes, start: u16, values: &[u8; 256], held: u8) -> u8 {
         let &[kind, parameter, _, first, second, third, ..] = module;
-        let [first, second] = [first, second].map(|node| values[usize::from(node)]);
+        let value = |node: u8| values[usize::from(node)];
+        let entry = |place: usize| self.gates[usize::from(start) + place];
+        let first = value(first);
+        if start < START_OF_TWO {
+            return entry(usize::from(first));
+        }
+        let second = value(second);
+        let pair = 4 * usize::from(first) + usize::from(second);
+        if start < START_OF_THREE {
+            return entry(pair);
+        }
+        if start < NO_TABLE {
+            return entry(4 * pair + usize::from(value(third)));
+        }
         if kind == CONSTANT {
             return parameter;
         }
-        let pair = 4 * usize::from(first) + usize::from(second);
-        if kind < MEMORY {
-            return self.gates[16 * usize::from(kind) + pair];
+        if in_set(parameter, second) {
+            first
+        } else {
+            held
         }
-        if kind == MEMORY {
-            return if in_set(parameter, second) {
-                first
-            } else {
-                held
-            };
-        }
-        let third = values[usize::from(third)];
-        self.of_three[64 * usize::from(kind - AND_3) + 4 * pair + usize::from(third)]
     }
 }
 
-/// An entry of the laid-out rules. Kinds that are no gates have none that is read.
-fn gate(place: usize) -> u8 {
-    let [kind, first, second] = [place / 16, place / 4 % 4, place % 4].map(|part| part as u8);
+/// Where a kind's rule begins, and the end of all for a kind that is no gate with inputs.
+fn start(kind: u8) -> u16 {
     match kind {
-        CONSTANT | MEMORY.. => 0,
-        BUFFER | INVERTER => rule(kind, 0, &[first]),
-        _ => rule(kind, 0, &[first, second]),
+        CONSTANT | MEMORY => NO_TABLE,
+        BUFFER..AND => 4 * u16::from(kind - BUFFER),
+        AND..MEMORY => START_OF_TWO + 16 * u16::from(kind - AND),
+        _ => START_OF_THREE + 64 * u16::from(kind - AND_3),
     }
 }
 
-/// An entry of those of three inputs.
-fn gate_of_three(place: usize) -> u8 {
-    let parts = [place / 64, place / 16 % 4, place / 4 % 4, place % 4];
-    let [from_first, first, second, third] = parts.map(|part| part as u8);
-    rule(AND_3 + from_first, 0, &[first, second, third])
+/// An entry of the laid-out rules.
+fn gate(place: usize) -> u8 {
+    let [of_two, of_three] = [START_OF_TWO, START_OF_THREE].map(usize::from);
+    if place < of_two {
+        entry(BUFFER, 1, place)
+    } else if place < of_three {
+        entry(AND, 2, place - of_two)
+    } else {
+        entry(AND_3, 3, place - of_three)
+    }
+}
+
+/// An entry of the rules of so many inputs, which begin with this kind's.
+fn entry(from: u8, inputs: u32, place: usize) -> u8 {
+    let part = |i| place / 4_usize.pow(i);
+    let values: Vec<u8> = (0..inputs).rev().map(|i| (part(i) % 4) as u8).collect();
+    rule(from + part(inputs) as u8, 0, &values)
 }

@@ -82,8 +82,8 @@ impl<'a> Tick<'a> {
     #[inline(never)]
     fn settle_all(&mut self) {
         let (from, modules) = self.tables.zero_delay();
-        for (module, last) in modules.iter().zip(&mut self.last[from..]) {
-            let value = self.tables.comes_to(module, &self.values, *last);
+        for ((module, start), last) in modules.zip(&mut self.last[from..]) {
+            let value = self.tables.comes_to(module, start, &self.values, *last);
             let [_, _, output, ..] = *module;
             self.values[usize::from(output)] = value;
             *last = value;
@@ -94,8 +94,8 @@ impl<'a> Tick<'a> {
     #[inline(never)]
     fn schedule_all(&mut self, tick: u32) {
         let delayed = self.tables.delayed().zip(&mut self.last).enumerate();
-        for (position, ((module, delay), last)) in delayed {
-            let value = self.tables.comes_to(module, &self.values, *last);
+        for (position, ((module, start, delay), last)) in delayed {
+            let value = self.tables.comes_to(module, start, &self.values, *last);
             if value == *last {
                 continue;
             }
