@@ -1,5 +1,6 @@
 /*
- * Timing networks: checks a sheet, runs it to a horizon, and says in words what a call answers.
+ * Timing networks: checks a sheet, runs it to a horizon, converts it to the other edition, and says in
+ * words what a call answers.
  *
  * Link libtiming_c.a, which is compiled for x86-64 Linux. It asks for memcpy and memset alone.
  * What a sheet is, and every word used here, is in document 01; how to begin, in README.md.
@@ -16,11 +17,12 @@ extern "C" {
 
 /*
  * answer[0], the number. A call answers TIMING_FINISHED, or the first refusal that the sheet, read
- * front to back, or the run meets. A strict check gives 0 and 2 to 18, a check these but 15, a run 0 to 20
- * but 15, describing 0 and 21.
+ * front to back, or the run or the conversion meets. A strict check gives 0 and 2 to 18, a check these but
+ * 15, a run 0 to 20 but 15, a conversion what a check gives and 23, to the first edition 22 as well,
+ * describing 0 and 21.
  */
 enum timing_number {
-    TIMING_FINISHED = 0, /* the sheet is accepted, the run has reached its horizon, or the text is written */
+    TIMING_FINISHED = 0, /* the sheet is accepted, the run has reached its horizon, or text or sheet is written */
 
     /* Before reading; the place is 0. */
     TIMING_HORIZON_OUTSIDE = 1, /* horizon 0 or above 1,000,000 */
@@ -59,7 +61,13 @@ enum timing_number {
     TIMING_CROWDED = 20, /* more than 4,096 changes are pending after this tick */
 
     /* While describing; the place is the length needed. */
-    TIMING_TEXT_SHORT = 21 /* the text's buffer is shorter than the sentence */
+    TIMING_TEXT_SHORT = 21, /* the text's buffer is shorter than the sentence */
+
+    /* While converting to the first edition; the place is the first byte of the first such record. */
+    TIMING_KIND_NOT_IN_FIRST = 22, /* a module: kind above 9, which the first edition lacks */
+
+    /* While converting; the place is the length needed. */
+    TIMING_OUTPUT_SHORT = 23 /* the output's buffer is shorter than the sheet to be written */
 };
 
 /* The values of a cell, as they stand in a listing. */
@@ -101,16 +109,18 @@ enum timing_value {
  * All calls:
  *
  * answer[0] is the number, answer[1] the place (0 where the number is 0) and answer[2] the count: of
- * records written, or of the bytes of a sentence. All three are written by every call.
+ * records written, of the bytes of a sentence, or of the bytes of a converted sheet. All three are written
+ * by every call.
  *
- * Nothing is asked of the sheet's bytes, of numbers and of lengths; listing, text and answer may hold
- * anything before. Of the memory:
+ * Nothing is asked of the sheet's bytes, of numbers and of lengths; listing, output, text and answer may
+ * hold anything before. Of the memory:
  * - No pointer is null, also where its length is 0: then nothing is read or written through it, and
  *   any other address will do. answer is aligned for its type.
- * - sheet has as many bytes as length says, listing and text as many as bytes says, answer three words.
- *   Before the call returns nobody else writes to the sheet, or reads or writes the other areas.
- * - The areas of a call do not overlap. The calls are proved, and compiled, for areas of their own: a
- *   record written over the sheet or the answer would change what they take for unchanged.
+ * - sheet has as many bytes as length says, listing, output and text as many as bytes says, answer three
+ *   words. Before the call returns nobody else writes to the sheet, or reads or writes the other areas.
+ * - The areas of a call do not overlap: no sheet is converted in its place. The calls are proved, and
+ *   compiled, for areas of their own: what is written over the sheet or the answer would change what they
+ *   take for unchanged.
  *
  * None keeps anything between calls or touches other memory than the lent areas and the stack, so
  * all may be called from several threads at once. Every call ends.
@@ -120,7 +130,7 @@ enum timing_value {
  * The bytes of stack that a call uses below its caller's frame, whatever it is given: measured (214.7,
  * 231.8 and 3.1 KiB) and rounded up, the first two to 16 KiB. A thread needs some for itself besides.
  * A strict check uses no more than a check is said to, and the second edition's calls use no more than the
- * first's are said to.
+ * first's are said to. A conversion uses no more than a check is said to.
  */
 #define TIMING_CHECK_STACK 229376
 #define TIMING_RUN_STACK 245760
@@ -129,8 +139,9 @@ enum timing_value {
 /*
  * A sheet has one of two editions. In the first a module's record has 7 bytes and its kind is 0 to 9. In the
  * second it has 8 bytes, the third input standing before the delay, and its kind is 0 to 15: 10 to 14 are
- * AND, OR, XOR, NAND and NOR of three inputs, 15 is a multiplexer (document 02, W-205). The calls that end in
- * _2 take a sheet of the second edition; what is said of the others holds of them.
+ * AND, OR, XOR, NAND and NOR of three inputs, 15 is a multiplexer (document 02, W-205). A check, a strict
+ * check and a run have a call of the same name with _2 at its end, which takes a sheet of the second edition;
+ * what is said of the first edition's holds of it.
  */
 
 /* Checks the sheet without running it. The count is always 0. A run refuses the same sheets. */
@@ -159,6 +170,23 @@ void timing_run(const uint8_t *sheet, size_t length, uint32_t horizon, uint8_t *
                 uint32_t answer[3]);
 void timing_run_2(const uint8_t *sheet, size_t length, uint32_t horizon, uint8_t *listing, size_t bytes,
                   uint32_t answer[3]);
+
+/*
+ * Converts the sheet to the other edition and writes it to the front of the output. timing_convert_1_to_2
+ * takes a sheet of the first edition, and each module's record gains a third input of 0; timing_convert_2_to_1
+ * takes one of the second, and each loses it. All other bytes stay in their order. There and back gives the
+ * same bytes, and both sheets run to the same answer and listing at every horizon and buffer length.
+ *
+ * Finished: the converted sheet stands first in the output, the count is its length, which is at most
+ * TIMING_LONGEST_SHEET_2, and the bytes past it are as they were. Refused: the output is as it was, and the
+ * count is 0. In this order: what the check of the sheet's own edition refuses; TIMING_KIND_NOT_IN_FIRST, to
+ * the first edition alone, the place being a byte of the given sheet; TIMING_OUTPUT_SHORT, where an output of
+ * just the length needed is enough.
+ */
+void timing_convert_1_to_2(const uint8_t *sheet, size_t length, uint8_t *output, size_t bytes,
+                           uint32_t answer[3]);
+void timing_convert_2_to_1(const uint8_t *sheet, size_t length, uint8_t *output, size_t bytes,
+                           uint32_t answer[3]);
 
 /*
  * Describes an answer, given by its three words, as a sentence in plain words: what is wrong, the place

@@ -24,3 +24,4 @@ pub mod EncodeRead
 pub mod EncodePlaces
 pub mod EncodeBytes
 pub mod Theorems
+pub mod Made

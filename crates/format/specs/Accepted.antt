@@ -75,11 +75,15 @@ pub data Known : Edition → Type 0 where
   the-first : Known firstEdition
   the-second : Known secondEdition
 
+-- the kinds of a sheet's modules are an edition's
+abbrev pub HasKinds : Edition → Sheet → Type 0
+HasKinds e S = (m : ℕ) → m < moduleCount S → moduleOf S m .kind ≤ e .greatest
+
 -- Bytes that a check does not refuse in an edition: such a sheet stands in them, its kinds are the edition's,
 -- and no byte is missing and none is left over.
 pub record AcceptedIn (e : Edition) (s : List ℕ) : Type 0 where
   pub sheet : Accepted (sheetOf e s)
-  pub kinds : (m : ℕ) → m < moduleCount (sheetOf e s) → moduleOf (sheetOf e s) m .kind ≤ e .greatest
+  pub kinds : HasKinds e (sheetOf e s)
   pub whole : length s ≡ sheetEnd e s
 
 -- an event at tick 0 drives the node

@@ -1,5 +1,6 @@
--- What an accepted sheet is, and how a sheet is written as bytes.
+-- What an accepted sheet is, how a sheet is written as bytes, and what a call that makes one leaves.
 pub mod Accepted
 pub mod Encode
+pub mod Made
 pub mod FirstMet
 pub mod Condition

@@ -12,8 +12,8 @@ use Rattle.sheet.specs.Refusal.{checked, checkedStrictly}
 use Rattle.sheet.specs.Sheet.{Sheet, moduleCount, moduleOf, nodeCount}
 use Rattle.sheet.specs.WorkingOrder.{workingOrder}
 use Rattle.sheet.specs.declared.Edition.{Edition}
-use Rattle.format.specs.Accepted.{Accepted, AcceptedIn, Known}
-use Rattle.format.specs.Encode.{Bytes, Encodable}
+use Rattle.format.specs.Accepted.{Accepted, AcceptedIn, Known, HasKinds}
+use Rattle.format.specs.Encode.{Bytes}
 use Rattle.network.specs.Demand3.{RunsToHorizon, SameRenumbered, ValidOrders, workedFrom}
 use Rattle.network.specs.Ends.{endedListing}
 use Rattle.network.specs.Order.{Listed, ValidOrder}
@@ -23,10 +23,7 @@ use Rattle.network.specs.Run.{RunLeaves, horizonOutside, ran, writtenOf}
 use Rattle.network.specs.Timeline.{Cells, at}
 use Rattle.network.specs.Working.{worked}
 use Rattle.format.proofs.Accepted.{accepted, conversely, strictly, strictly-conversely}
-use Rattle.format.proofs.EncodeBytes.{encode-bytes}
-use Rattle.format.proofs.EncodePlaces.{encode-whole, read-encode}
 use Rattle.network.proofs.Answers.{same-answer, whole-listing}
-use Rattle.network.proofs.Fits.{fits, one-byte-each}
 use Rattle.network.proofs.Listing.{watched-bytes, watched-nodes}
 use Rattle.network.proofs.PendingCount.{pending-renumbered}
 use Rattle.network.proofs.Permuting.{to-once}
@@ -37,6 +34,7 @@ use Rattle.network.proofs.RenumberedListing.{Rewatched, renumbered-leng
 use Rattle.network.proofs.Runs.{accepted-run, in-range, only, ran-satisfied, ran-sheet, satisfied}
 use Rattle.network.proofs.Wired.{wired}
 use Rattle.network.proofs.WorkingOrder.{working-order}
+use Rattle.network.proofs.Written.{read-back, written-bytes, written-accepted, written-strictly}
 
 -- N and P, whose nodes are N's renumbered by to, with their cells
 record Agree (N P : Sheet) (to : ℕ → ℕ) (horizon bytes : ℕ) (n q : Cells) : Type 0 where
@@ -98,22 +96,19 @@ module _ {E : Edition} (known : Known E) (s : List ℕ) (ok : AcceptedIn E s) (�
   accepted-sheet : Accepted Q
   accepted-sheet = accepted-renumbered (sheetOf E s) (ok .sheet) π order each-once
 
-  kinds-renumbered : (k : ℕ) → k < moduleCount Q → moduleOf Q k .kind ≤ E .greatest
+  kinds-renumbered : HasKinds E Q
   kinds-renumbered k h =
       let l = rw (module-count-renumbered (sheetOf E s) π order each-once) at h in
       subst (λ m. m .kind ≤ E .greatest) (sym (module-of-renumbered (sheetOf E s) π order each-once k l)) (ok .kinds (getD order k 0) (each-once .known k l))
 
-  fits-renumbered : Encodable E Q
-  fits-renumbered = fits Q accepted-sheet known kinds-renumbered
-
   pub sheet-renumbered : sheetOf E p ≡ Q
-  sheet-renumbered = read-encode known Q fits-renumbered
+  sheet-renumbered = read-back known Q accepted-sheet kinds-renumbered
 
   pub bytes-renumbered : Bytes p
-  bytes-renumbered = encode-bytes E Q (one-byte-each Q accepted-sheet)
+  bytes-renumbered = written-bytes known Q accepted-sheet kinds-renumbered
 
   pub accepted-bytes : AcceptedIn E p
-  accepted-bytes = record { sheet = rw sheet-renumbered accepted-sheet; kinds = rw sheet-renumbered kinds-renumbered; whole = encode-whole known Q fits-renumbered }
+  accepted-bytes = written-accepted known Q accepted-sheet kinds-renumbered
 
   pub checked-renumbered : checked E p ≡ finished 0
   checked-renumbered = conversely E known p accepted-bytes
@@ -122,7 +117,7 @@ module _ {E : Edition} (known : Known E) (s : List ℕ) (ok : AcceptedIn E s) (�
   pub strictly-renumbered : checkedStrictly E s ≡ finished 0 → checkedStrictly E p ≡ finished 0
   strictly-renumbered e =
       strictly-conversely E known p
-      (record { accepted = accepted-bytes; driven-at-start = rw sheet-renumbered (started (sheetOf E s) (ok .sheet) π order each-once (strictly E known s e .driven-at-start)) })
+      (written-strictly known Q accepted-sheet kinds-renumbered (started (sheetOf E s) (ok .sheet) π order each-once (strictly E known s e .driven-at-start)))
 
 pub demand-3 : {E : Edition} → Known E → (s : List ℕ) (horizon bytes : ℕ) → RunsToHorizon E s horizon bytes
     → (π : Permutation (nodeCount (sheetOf E s))) (order : List ℕ) → Listed (moduleCount (sheetOf E s)) order

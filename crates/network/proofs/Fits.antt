@@ -14,11 +14,11 @@ use Rattle.level.specs.Gate.{some}
 use Rattle.level.specs.Kind.{ruleOf}
 use Rattle.level.specs.Rule.{inputsOf}
 use Rattle.sheet.specs.Refusal.{greatestParameter}
-use Rattle.sheet.specs.Sheet.{nodeCount, Sheet, moduleCount, moduleOf, noEvent, noModule}
+use Rattle.sheet.specs.Sheet.{nodeCount, Sheet, moduleOf, noEvent, noModule}
 use Rattle.sheet.specs.Wiring.{inputs, usedInputs, moduleRule}
 use Rattle.sheet.specs.declared.Edition.{Edition}
 use Rattle.sheet.specs.declared.Module.{Module}
-use Rattle.format.specs.Accepted.{SoundModule, Accepted, Known, the-first, the-second}
+use Rattle.format.specs.Accepted.{SoundModule, Accepted, Known, HasKinds, the-first, the-second}
 use Rattle.format.specs.Encode.{roomForInputs, Encodable, OneByteEach}
 use Rattle.level.proofs.Computed.{below}
 use Rattle.level.proofs.Gates.{same-inputs, most-inputs}
@@ -54,7 +54,7 @@ later (suc i) (suc j) [] v h m = m
 later (suc i) (suc j) (a ∷ l) v h m = later i j l v (le-of-suc-le-suc h) m
 
 module _ (S : Sheet) (acc : Accepted S) where
-  pub fits : {E : Edition} → Known E → ((m : ℕ) → m < moduleCount S → moduleOf S m .kind ≤ E .greatest) → Encodable E S
+  pub fits : {E : Edition} → Known E → HasKinds E S → Encodable E S
   fits {E} known kinds =
       record {
         nodes = omega (arith, acc .nodes);

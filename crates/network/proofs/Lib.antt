@@ -12,6 +12,7 @@ pub mod Ends
 pub mod Listing
 pub mod RenumberedListing
 pub mod Fits
+pub mod Written
 pub mod Equation
 pub mod Ordered
 pub mod Existence

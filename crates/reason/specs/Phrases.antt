@@ -26,7 +26,7 @@ infix 20 _by_
 abbrev pub _by_ : String → Sort → Phrase
 wrong by sort = record { wrong = wrong; sort = sort }
 
--- refusals 1 to 21, in order
+-- refusals 1 to 23, in order
 abbrev pub phrases : List Phrase
 phrases =
     ("the horizon is not from 1 to 1,000,000 ticks" by Bare)
@@ -50,6 +50,8 @@ phrases =
     ∷ ("the listing has no room for all records of a tick" by Tick)
     ∷ ("more than 4,096 changes are pending after a tick" by Tick)
     ∷ ("the text buffer is shorter than the sentence" by Length)
+    ∷ ("a module has a kind above 9, which the first edition of the sheet lacks" by Byte)
+    ∷ ("the output buffer is shorter than the sheet to be written" by Length)
     ∷ []
 
 -- how a number that no row has is said, before the number itself

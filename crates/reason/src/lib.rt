@@ -47,8 +47,29 @@ fn put_unlisted(text: &mut [u8], at: usize, number: u32) -> usize
     put_sort(text, end, Sort::Bare)
 }
 
-// Puts what a number from 16 on says, up to its place: of the sheet after its drive, of a run's ticks and of a text; past the table,
-// that it is not listed.
+// Puts what a number from 22 on says, up to its place: of a sheet that is made from another; past the table, that it is not listed.
+fn put_made_reason(text: &mut [u8], at: usize, number: u32) -> usize
+    requires { ⌜ 22 ≤ number ⌝ }
+    ensures { λ r. ⌜ Prints (reason number) (now (text .entry)) at (now (text .exit)) r ⌝ }
+{
+    match number {
+        22 => put_phrase(
+            text,
+            at,
+            b"a module has a kind above 9, which the first edition of the sheet lacks",
+            Sort::Byte,
+        ),
+        23 => put_phrase(
+            text,
+            at,
+            b"the output buffer is shorter than the sheet to be written",
+            Sort::Length,
+        ),
+        _ => put_unlisted(text, at, number),
+    }
+}
+
+// The same from 16 on: of the sheet after its drive, of a run's ticks and of a text.
 fn put_last_reason(text: &mut [u8], at: usize, number: u32) -> usize
     requires { ⌜ 16 ≤ number ⌝ }
     ensures { λ r. ⌜ Prints (reason number) (now (text .entry)) at (now (text .exit)) r ⌝ }
@@ -90,7 +111,7 @@ fn put_last_reason(text: &mut [u8], at: usize, number: u32) -> usize
             b"the text buffer is shorter than the sentence",
             Sort::Length,
         ),
-        _ => put_unlisted(text, at, number),
+        _ => put_made_reason(text, at, number),
     }
 }
 

@@ -19,6 +19,8 @@ examples =
     ∷ (refused 18 1 0 reads "refused: one or more modules of delay 0 form a closed chain, at node 1; records written: 0")
     ∷ (refused 19 11 5 reads "refused: the listing has no room for all records of a tick, at tick 11; records written: 5")
     ∷ (refused 21 27 0 reads "refused: the text buffer is shorter than the sentence, length needed 27; records written: 0")
+    ∷ (refused 22 16 0 reads "refused: a module has a kind above 9, which the first edition of the sheet lacks, at the sheet's byte 16; records written: 0")
+    ∷ (refused 23 32 0 reads "refused: the output buffer is shorter than the sheet to be written, length needed 32; records written: 0")
     ∷ (refused 0 7 6 reads "refused: the reason is not listed, number 0, place 7; records written: 6")
     ∷ (refused 77 4294967295 0 reads "refused: the reason is not listed, number 77, place 4294967295; records written: 0")
     ∷ []

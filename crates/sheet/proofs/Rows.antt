@@ -12,7 +12,7 @@ use Rattle.level.specs.Choice.{if_then_else_}
 use Rattle.sheet.specs.declared.Answer.{Answer}
 use Rattle.sheet.specs.declared.Answer.the-variants.{Ran, Refused}
 use Rattle.sheet.specs.Enumerate.{each}
-use Rattle.sheet.specs.Outcome.{Outcome, finished, refused, outcomeOf}
+use Rattle.sheet.specs.Outcome.{Outcome, finished, refused, orElse, outcomeOf}
 use Rattle.sheet.specs.Refusal.{Row, first}
 use Rattle.sheet.proofs.Each.{each-mem}
 
@@ -68,13 +68,8 @@ first-answers (x ∷ xs) = go (x .met) (first-answers xs)
     go false after = after
 
 -- without a refusal the count is 0
-count-0 : (xs : List Row) (n : ℕ) → first xs ≡ finished n → first xs ≡ finished 0
+pub count-0 : (xs : List Row) (n : ℕ) → first xs ≡ finished n → first xs ≡ finished 0
 count-0 xs n h = ⊎-elim (λ e. e) (λ r. absurd (finished≢refused (sym h ∙ r .2))) (first-answers xs)
-
--- a refusal stands; a finished call gives way to what follows
-abbrev orElse : Outcome → Outcome → Outcome
-orElse (finished n) o = o
-orElse (refused n p k) o = refused n p k
 
 first-append : (xs ys : List Row) → first (xs ++ ys) ≡ orElse (first xs) (first ys)
 unfolding first

@@ -11,6 +11,11 @@ pub data Outcome : Type 0 where
   finished : ℕ → Outcome
   refused : ℕ → ℕ → ℕ → Outcome
 
+-- a refusal stands; a finished call gives way to what follows
+abbrev pub orElse : Outcome → Outcome → Outcome
+orElse (finished count) o = o
+orElse (refused number place count) o = refused number place count
+
 -- the paper's number and values for each case of the code's answer
 abbrev pub outcomeOf : Answer → Outcome
 outcomeOf (Ran count) = finished count

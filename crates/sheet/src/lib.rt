@@ -4,6 +4,7 @@ ghost use mathlib.Core.Path.{_≡_};
 ghost use Prim.Native.Nat.{_+_, _<_, _≤_};
 ghost use Rattle.sheet.specs.Bytes.{byteAt, wordAt, longAt};
 ghost use Rattle.sheet.specs.Layout.{firstEdition, secondEdition, hasThird, thirdAt, delayPlace, moduleRecord, eventRecord};
+ghost use Rattle.sheet.specs.Outcome.{orElse, outcomeOf};
 ghost use Rattle.sheet.specs.Reading.{countRead, nodeRead, moduleRead, eventRead};
 
 // The sizes of a count and of an event's record; a node's and a watched node's is one byte.
@@ -87,6 +88,16 @@ pub enum Answer {
     Ran(u32),
     // A refusal: number, place, count of records written.
     Refused(u32, u32, u32),
+}
+
+// A refusal stands; a finished call gives way to what follows.
+pub fn or_else(a: Answer, b: Answer) -> Answer
+    ensures { λ r. ⌜ outcomeOf r ≡ orElse (outcomeOf a) (outcomeOf b) ⌝ }
+{
+    match a {
+        Answer::Ran(_) => b,
+        Answer::Refused(number, place, count) => Answer::Refused(number, place, count),
+    }
 }
 
 // A module's record.
@@ -198,14 +209,14 @@ pub fn node_at(s: &[u8], p: u32) -> NodeRead
 }
 
 // Whether an edition's module records have a third input.
-fn has_third(e: Edition) -> bool
+pub fn has_third(e: Edition) -> bool
     ensures { λ r. ⌜ r ≡ hasThird e ⌝ }
 {
     FIRST_SIZE < e.size
 }
 
 // The third input of the module's record at a place, 0 in an edition that has none.
-fn third_at(e: Edition, s: &[u8], p: u32) -> u8
+pub fn third_at(e: Edition, s: &[u8], p: u32) -> u8
     ensures { λ r. ⌜ r ≡ thirdAt e (now (s .entry)) p ⌝ }
 {
     if has_third(e) {
@@ -216,7 +227,7 @@ fn third_at(e: Edition, s: &[u8], p: u32) -> u8
 }
 
 // Where the delay stands in the module's record at a place.
-fn delay_place(e: Edition, p: u32) -> usize
+pub fn delay_place(e: Edition, p: u32) -> usize
     ensures { λ r. ⌜ (r ≡ delayPlace e p) × (r ≤ p + 6) ⌝ }
 {
     if has_third(e) {

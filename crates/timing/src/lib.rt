@@ -1,4 +1,5 @@
-// The library: what users call, and what each call promises. A call that takes a sheet is there for each edition, the second's with _2.
+// The library: what users call, and what each call promises. A call that takes a sheet is there for each edition: the second's with _2, a
+// conversion for each way.
 pub use sentence::describe;
 pub use sheet::Answer;
 use sheet::Edition;
@@ -6,7 +7,9 @@ ghost use mathlib.Core.Path.{_≡_};
 ghost use Rattle.sheet.specs.Layout.{firstEdition, secondEdition};
 ghost use Rattle.sheet.specs.Outcome.{outcomeOf};
 ghost use Rattle.sheet.specs.Refusal.{checkedBy, checked, checkedStrictly};
+ghost use Rattle.format.specs.Accepted.{Known};
 ghost use Rattle.network.specs.Run.{RunLeaves};
+ghost use Rattle.convert.specs.Conversion.{Converts};
 
 // Checks a sheet of an edition, strictly or not: the refusals of its bytes, and then its zero-delay loops.
 fn check_in(strict: bool, edition: Edition, bytes: &[u8]) -> Answer
@@ -61,4 +64,41 @@ pub fn run_2(sheet: &[u8], horizon: u32, listing: &mut [u8]) -> Answer
     ensures { λ r. ⌜ RunLeaves secondEdition (now (sheet .entry)) horizon (now (listing .entry)) (outcomeOf r) (now (listing .exit)) ⌝ }
 {
     run::run(sheet::second_edition(), sheet, horizon, listing)
+}
+
+// Converts a sheet of an edition to the other: the check's refusals, and then the conversion's.
+fn convert_in(from: Edition, to: Edition, sheet: &[u8], output: &mut [u8]) -> Answer
+    requires { ⌜ Known from × Known to ⌝ }
+    ensures { λ r. ⌜ Converts from to (now (sheet .entry)) (now (output .entry)) (outcomeOf r) (now (output .exit)) ⌝ }
+{
+    let checked = check_in(false, from, sheet);
+    let Answer::Ran(_) = checked else {
+        return checked;
+    };
+    convert::convert(from, to, sheet, output)
+}
+
+// Converts a sheet of the first edition to the second: refusals 2 to 14, 16 to 18 and 23, or a finished call with the count of bytes
+// written. The converted sheet stands first in the output; bytes past it are as they were. A refusal writes nothing.
+pub fn convert_1_to_2(sheet: &[u8], output: &mut [u8]) -> Answer
+    ensures { λ r. ⌜ Converts firstEdition secondEdition (now (sheet .entry)) (now (output .entry)) (outcomeOf r) (now (output .exit)) ⌝ }
+{
+    convert_in(
+        sheet::first_edition(),
+        sheet::second_edition(),
+        sheet,
+        output,
+    )
+}
+
+// The other way, with refusal 22 besides: a kind above 9.
+pub fn convert_2_to_1(sheet: &[u8], output: &mut [u8]) -> Answer
+    ensures { λ r. ⌜ Converts secondEdition firstEdition (now (sheet .entry)) (now (output .entry)) (outcomeOf r) (now (output .exit)) ⌝ }
+{
+    convert_in(
+        sheet::second_edition(),
+        sheet::first_edition(),
+        sheet,
+        output,
+    )
 }

@@ -1,11 +1,12 @@
 // The library's entry points for other languages. A slice passes as a pointer and a length. A call that takes a sheet is there for each
-// edition, the second's with _2.
+// edition: the second's with _2, a conversion for each way.
 use timing::Answer;
 ghost use mathlib.Core.Path.{_≡_};
 ghost use Rattle.sheet.specs.Layout.{firstEdition, secondEdition};
 ghost use Rattle.sheet.specs.Outcome.{Outcome, outcomeOf, numbers, fromNumbers};
 ghost use Rattle.sheet.specs.Refusal.{checked, checkedStrictly};
 ghost use Rattle.network.specs.Run.{RunLeaves};
+ghost use Rattle.convert.specs.Conversion.{Converts};
 ghost use Rattle.sentence.specs.Describing.{Describes};
 
 // An answer's three numbers: number (0 for a finished call), place, count.
@@ -76,6 +77,23 @@ pub extern "C" fn timing_run_2(
         × RunLeaves secondEdition (now (sheet .entry)) horizon (now (listing .entry)) o (now (listing .exit))) ⌝ }
 {
     *answer = numbers_of(timing::run_2(sheet, horizon, listing));
+}
+
+// The three numbers are those of the answer to the conversion.
+#[no_mangle]
+pub extern "C" fn timing_convert_1_to_2(sheet: &[u8], output: &mut [u8], answer: &mut [u32; 3])
+    ensures { λ _. ⌜ ((o : Outcome) × (now (answer .exit) ≡ numbers o)
+        × Converts firstEdition secondEdition (now (sheet .entry)) (now (output .entry)) o (now (output .exit))) ⌝ }
+{
+    *answer = numbers_of(timing::convert_1_to_2(sheet, output));
+}
+
+#[no_mangle]
+pub extern "C" fn timing_convert_2_to_1(sheet: &[u8], output: &mut [u8], answer: &mut [u32; 3])
+    ensures { λ _. ⌜ ((o : Outcome) × (now (answer .exit) ≡ numbers o)
+        × Converts secondEdition firstEdition (now (sheet .entry)) (now (output .entry)) o (now (output .exit))) ⌝ }
+{
+    *answer = numbers_of(timing::convert_2_to_1(sheet, output));
 }
 
 // Describes the answer that three numbers stand for.

@@ -15,6 +15,15 @@ type Run = unsafe extern "C" fn(
     answer: *mut [u32; 3],
 );
 
+/// A conversion's entry point.
+type Convert = unsafe extern "C" fn(
+    sheet: *const u8,
+    sheet_len: usize,
+    output: *mut u8,
+    output_len: usize,
+    answer: *mut [u32; 3],
+);
+
 mod c {
     extern "C" {
         pub fn timing_check(sheet: *const u8, sheet_len: usize, answer: *mut [u32; 3]);
@@ -37,6 +46,21 @@ mod c {
             horizon: u32,
             listing: *mut u8,
             listing_len: usize,
+            answer: *mut [u32; 3],
+        );
+
+        pub fn timing_convert_1_to_2(
+            sheet: *const u8,
+            sheet_len: usize,
+            output: *mut u8,
+            output_len: usize,
+            answer: *mut [u32; 3],
+        );
+        pub fn timing_convert_2_to_1(
+            sheet: *const u8,
+            sheet_len: usize,
+            output: *mut u8,
+            output_len: usize,
             answer: *mut [u32; 3],
         );
 
@@ -95,6 +119,24 @@ pub fn run(edition: Edition, sheet: &[u8], horizon: u32, listing: &mut [u8]) -> 
             horizon,
             listing.as_mut_ptr(),
             listing.len(),
+            &mut answer,
+        );
+    }
+    answer
+}
+
+/// Writes the sheet, which is of the edition `from`, to the front of `output` as a sheet of the other.
+/// The answer is number (0 where the output took the sheet), place and count, the bytes written.
+pub fn convert(from: Edition, sheet: &[u8], output: &mut [u8]) -> [u32; 3] {
+    let call = by_edition::<Convert>(from, c::timing_convert_1_to_2, c::timing_convert_2_to_1);
+    let mut answer = [UNWRITTEN; 3];
+    // SAFETY: as above; the output's bytes are written, too, and lent for the whole call.
+    unsafe {
+        call(
+            sheet.as_ptr(),
+            sheet.len(),
+            output.as_mut_ptr(),
+            output.len(),
             &mut answer,
         );
     }

@@ -72,7 +72,8 @@ impl Generator {
         bytes
     }
 
-    fn base_or_faulty(&mut self) -> Sheet {
+    /// A sheet to spoil, or one with a fault already.
+    pub(crate) fn base_or_faulty(&mut self) -> Sheet {
         if self.random.chance(70) {
             self.base()
         } else {

@@ -9,6 +9,8 @@
 mod answer;
 pub mod by_hand;
 mod bytes;
+mod conversion;
+pub mod conversions_by_hand;
 mod crowded;
 pub mod ends;
 pub mod ends_by_hand;
@@ -31,6 +33,7 @@ mod start;
 mod valid;
 mod zero_delay;
 
+pub use conversion::Output;
 pub use met::assert_met;
 pub use room::{room_for_all, Room};
 pub use run_mixture::RunInput;

@@ -11,6 +11,14 @@ pub enum Edition {
 impl Edition {
     pub const ALL: [Edition; 2] = [Edition::First, Edition::Second];
 
+    /// The one that sheets of this one are converted to.
+    pub fn other(self) -> Edition {
+        match self {
+            Edition::First => Edition::Second,
+            Edition::Second => Edition::First,
+        }
+    }
+
     /// The bytes of a module's record.
     pub fn module_bytes(self) -> usize {
         match self {

@@ -8,6 +8,7 @@
 
 mod answer;
 mod cells;
+mod convert;
 mod edition;
 mod gate;
 mod level;
@@ -20,11 +21,13 @@ mod record;
 mod renumber;
 mod sentence;
 mod sheet;
+mod whole;
 pub mod worked_run;
 mod zero_delay;
 
 pub use answer::Answer;
 pub use cells::cells;
+pub use convert::convert;
 pub use edition::Edition;
 pub use gate::{in_set, rule};
 pub use level::{HIGH, LOW, NONE, UNKNOWN};

@@ -1,6 +1,7 @@
 //! An answer as a sentence: what is wrong, the place with its sort, the count of records.
 
 use crate::answer::Answer;
+use crate::whole::put_whole;
 
 /// What a refusal's place counts. A bare 0 counts nothing.
 #[derive(Clone, Copy)]
@@ -14,8 +15,8 @@ enum Sort {
 
 use Sort::*;
 
-/// What is wrong, and what the place counts, of refusals 1 to 21.
-const PHRASES: [(&str, Sort); 21] = [
+/// What is wrong, and what the place counts, of refusals 1 to 23.
+const PHRASES: [(&str, Sort); 23] = [
     ("the horizon is not from 1 to 1,000,000 ticks", Bare),
     ("the sheet's bytes end inside a count or a record", Byte),
     (
@@ -66,6 +67,14 @@ const PHRASES: [(&str, Sort); 21] = [
     ("the listing has no room for all records of a tick", Tick),
     ("more than 4,096 changes are pending after a tick", Tick),
     ("the text buffer is shorter than the sentence", Length),
+    (
+        "a module has a kind above 9, which the first edition of the sheet lacks",
+        Byte,
+    ),
+    (
+        "the output buffer is shorter than the sheet to be written",
+        Length,
+    ),
 ];
 
 /// The phrase of a refusal's number, if it has one.
@@ -112,17 +121,5 @@ pub fn sentence(answer: Answer) -> String {
 
 /// Writes an answer's sentence to the front of the text, if it takes it whole.
 pub fn describe(answer: Answer, text: &mut [u8]) -> Answer {
-    let sentence = sentence(answer);
-    let length = u32::try_from(sentence.len()).expect("a sentence is short");
-    match text.get_mut(..sentence.len()) {
-        Some(front) => {
-            front.copy_from_slice(sentence.as_bytes());
-            Answer::Ran { count: length }
-        }
-        None => Answer::Refused {
-            number: 21,
-            place: length,
-            count: 0,
-        },
-    }
+    put_whole(sentence(answer).as_bytes(), text, 21)
 }

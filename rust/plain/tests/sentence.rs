@@ -38,6 +38,20 @@ fn sentences() {
              written: 0",
         ),
         (
+            refused(22, 17, 0),
+            "refused: a module has a kind above 9, which the first edition of the sheet lacks, at \
+             the sheet's byte 17; records written: 0",
+        ),
+        (
+            refused(23, 8_704, 0),
+            "refused: the output buffer is shorter than the sheet to be written, length needed \
+             8704; records written: 0",
+        ),
+        (
+            refused(24, 1, 2),
+            "refused: the reason is not listed, number 24, place 1; records written: 2",
+        ),
+        (
             refused(4_294_967_295, 5, 6),
             "refused: the reason is not listed, number 4294967295, place 5; records written: 6",
         ),
@@ -62,7 +76,7 @@ fn a_refusal_of_number_0() {
 #[test]
 fn no_phrase_begins_another() {
     let phrases: Vec<&str> = (0..100).filter_map(phrase).collect();
-    assert_eq!(phrases.len(), 21);
+    assert_eq!(phrases.len(), 23);
     for (i, one) in phrases.iter().enumerate() {
         for (j, other) in phrases.iter().enumerate() {
             assert!(i == j || !other.starts_with(one), "{one}; {other}");

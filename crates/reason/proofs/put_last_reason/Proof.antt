@@ -1,9 +1,7 @@
 -- `reason::put_last_reason` meets its contract, number by number. Assumes nothing.
 use borrow.Author.Needs.{needs}
-use native.Mathlib.Omega.{arith}
 use Rattle.lent.specs.Letters.{letters}
 use Rattle.reason.specs.Reason.{reason}
-use Rattle.reason.proofs.Listed.{above-listed}
 use Rattle.reason.proofs.put_last_reason.Statement.{statement}
 use Rattle.reason.proofs.put_last_reason.Tie as tie
 
@@ -25,4 +23,4 @@ put-last-reason-spec =
     (λ c. search needs) (λ c. rw (c .before .before .before .before .before .match .keys4) (c .before .before .put-phrase4 .ensures))
     (λ c. search needs) (λ c. rw (c .before .before .before .before .before .match .keys5) (c .before .before .put-phrase5 .ensures))
     (λ c. search needs) (λ c. rw (c .before .before .before .before .before .match .keys6) (c .before .before .put-phrase6 .ensures))
-    (λ c. search needs) (λ c. rw (above-listed (c .before .before .before .before .before .before .args .number) (omega arith)) (c .before .before .put-unlisted .ensures)))
+    (λ c. search needs) (λ c. search needs))

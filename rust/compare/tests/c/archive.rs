@@ -47,6 +47,8 @@ fn what_it_offers_and_asks_for() {
             "timing_check_2",
             "timing_check_strict",
             "timing_check_strict_2",
+            "timing_convert_1_to_2",
+            "timing_convert_2_to_1",
             "timing_describe",
             "timing_run",
             "timing_run_2"

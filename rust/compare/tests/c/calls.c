@@ -5,9 +5,11 @@
  *     calls check
  *     calls check_strict
  *     calls run HORIZON BYTES
+ *     calls convert_1_to_2 BYTES
+ *     calls convert_2_to_1 BYTES
  *     calls describe NUMBER PLACE COUNT BYTES
  *
- * The calls of the second edition are check_2, check_strict_2 and run_2.
+ * Over a sheet of the second edition the first three are check_2, check_strict_2 and run_2.
  */
 #include <inttypes.h>
 #include <stdio.h>
@@ -22,6 +24,7 @@
 /* The entry points' types, written once more: the header's must be these. */
 typedef void check_type(const uint8_t *, size_t, uint32_t *);
 typedef void run_type(const uint8_t *, size_t, uint32_t, uint8_t *, size_t, uint32_t *);
+typedef void convert_type(const uint8_t *, size_t, uint8_t *, size_t, uint32_t *);
 
 static const struct {
     const char *name;
@@ -39,6 +42,14 @@ static const struct {
 } runs[] = {
     {"run", timing_run},
     {"run_2", timing_run_2}
+};
+
+static const struct {
+    const char *name;
+    convert_type *call;
+} conversions[] = {
+    {"convert_1_to_2", timing_convert_1_to_2},
+    {"convert_2_to_1", timing_convert_2_to_1}
 };
 
 static void (*const describe_call)(uint32_t, uint32_t, uint32_t, uint8_t *, size_t, uint32_t *) = timing_describe;
@@ -72,6 +83,16 @@ static void run(run_type *call, size_t length, uint32_t horizon, size_t bytes)
 
     memset(lent, UNTOUCHED, sizeof lent);
     call(sheet, length, horizon, lent, bytes, answer);
+    print_answer(answer);
+    print_lent(bytes);
+}
+
+static void convert(convert_type *call, size_t length, size_t bytes)
+{
+    uint32_t answer[3] = {UINT32_MAX, UINT32_MAX, UINT32_MAX};
+
+    memset(lent, UNTOUCHED, sizeof lent);
+    call(sheet, length, lent, bytes, answer);
     print_answer(answer);
     print_lent(bytes);
 }
@@ -111,6 +132,16 @@ int main(int argc, char **argv)
             }
         }
     }
+    for (size_t i = 0; i < sizeof conversions / sizeof *conversions; i++) {
+        if (argc == 3 && strcmp(argv[1], conversions[i].name) == 0) {
+            size_t bytes = strtoul(argv[2], NULL, 10);
+
+            if (bytes <= sizeof lent) {
+                convert(conversions[i].call, length, bytes);
+                return EXIT_SUCCESS;
+            }
+        }
+    }
     if (argc == 6 && strcmp(argv[1], "describe") == 0) {
         const uint32_t words[3] = {word(argv[2]), word(argv[3]), word(argv[4])};
         size_t bytes = strtoul(argv[5], NULL, 10);
@@ -120,6 +151,7 @@ int main(int argc, char **argv)
             return EXIT_SUCCESS;
         }
     }
-    fprintf(stderr, "usage: calls CHECK | calls RUN HORIZON BYTES | calls describe NUMBER PLACE COUNT BYTES\n");
+    fprintf(stderr, "usage: calls CHECK | calls RUN HORIZON BYTES | calls CONVERSION BYTES |"
+                    " calls describe NUMBER PLACE COUNT BYTES\n");
     return EXIT_FAILURE;
 }

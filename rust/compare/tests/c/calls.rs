@@ -7,7 +7,7 @@ use compare::hex;
 use generate::limits::RECORD_BYTES;
 use generate::shared::{four_buffers, toggled};
 use generate::sheets::constant;
-use generate::{by_hand, runs_by_hand, Generator, Size};
+use generate::{by_hand, conversions_by_hand, runs_by_hand, Generator, Size};
 use plain::{sentence, worked_run, Answer, Edition, Sheet, HIGH};
 
 use crate::compiled::Program;
@@ -54,6 +54,21 @@ fn ran(edition: Edition, sheet: &[u8], horizon: u32, bytes: usize, whence: &str)
     let arguments = [call, horizon.to_string(), bytes.to_string()];
     let printed = CALLS.printed(&arguments, sheet);
     let expected = format!("{}{}\n", words(answer), hex(&listing));
+    assert_eq!(printed, expected, "{whence}: {}", hex(sheet));
+    answer
+}
+
+/// Asserts that a conversion from C answers what the plain simulator does and leaves the same bytes, and
+/// gives the answer.
+fn converted(from: Edition, sheet: &[u8], bytes: usize, whence: &str) -> [u32; 3] {
+    let mut output = vec![UNTOUCHED; bytes];
+    let answer = plain::convert(from, sheet, &mut output).triple();
+    let call = match from {
+        Edition::First => "convert_1_to_2",
+        Edition::Second => "convert_2_to_1",
+    };
+    let printed = CALLS.printed(&[call.to_string(), bytes.to_string()], sheet);
+    let expected = format!("{}{}\n", words(answer), hex(&output));
     assert_eq!(printed, expected, "{whence}: {}", hex(sheet));
     answer
 }
@@ -139,6 +154,16 @@ fn sheets_worked_out_by_hand() {
     }
 }
 
+/// Document 02's W-207 from C, the worked run's sheet included: refusals 2 to 18 but 15, 22 and 23, and what
+/// is written.
+#[test]
+fn conversions_worked_out_by_hand() {
+    for case in conversions_by_hand::cases() {
+        let answer = converted(case.from, &case.sheet, case.bytes, &case.whence());
+        assert_eq!(answer, case.answer, "{}", case.whence());
+    }
+}
+
 /// Document 02's W-205 from C.
 #[test]
 fn runs_of_three_inputs() {
@@ -155,5 +180,8 @@ fn a_full_sheet() {
         let sheet = Generator::of(edition, 4).valid(Size::Full).encode(edition);
         let [number, ..] = ran(edition, &sheet, 20, 60_000, "full");
         assert_eq!(number, 0);
+        // Many modules of the second edition's sheet have three inputs.
+        let [number, ..] = converted(edition, &sheet, 60_000, "full");
+        assert_eq!(number, if edition == Edition::First { 0 } else { 22 });
     }
 }

@@ -42,12 +42,22 @@ fn cases(file: &str, word: &str) -> Vec<Named> {
     found
 }
 
-/// Every refusal's name and number: 2 to 18, then those of a run, then that of a description.
+/// Every refusal's name and number: 2 to 18, then those of a run, that of a description, and those of a
+/// conversion, of which the last is that of any sheet to be written.
 pub fn refusals() -> Vec<Named> {
     let of_a_sheet = cases("format/specs/Condition.antt", "ConditionBy ");
     let of_a_run = cases("network/specs/RunConditions.antt", "(refused ");
     let of_a_text = constants("sentence/specs/Describing.antt");
-    [of_a_sheet, of_a_run, of_a_text].concat()
+    let of_a_conversion = constants("convert/specs/Conversion.antt");
+    let of_an_output = constants("format/specs/Made.antt");
+    [
+        of_a_sheet,
+        of_a_run,
+        of_a_text,
+        of_a_conversion,
+        of_an_output,
+    ]
+    .concat()
 }
 
 /// The numbers that a file names: "name = number".

@@ -6,9 +6,11 @@
  *     stack check
  *     stack check_strict
  *     stack run HORIZON
+ *     stack convert_1_to_2
+ *     stack convert_2_to_1
  *     stack describe NUMBER PLACE COUNT
  *
- * The calls of the second edition are check_2, check_strict_2 and run_2.
+ * Over a sheet of the second edition the first three are check_2, check_strict_2 and run_2.
  */
 #define _POSIX_C_SOURCE 200809L
 
@@ -28,6 +30,7 @@ static size_t length;
 static const char *call;
 static uint32_t words[3]; /* the call's numbers */
 static uint8_t listing[60000];
+static uint8_t output[2 * TIMING_LONGEST_SHEET_2];
 static uint8_t text[TIMING_LONGEST_SENTENCE];
 static uint32_t answer[3];
 static ptrdiff_t used;
@@ -56,6 +59,10 @@ static void *call_on(void *stack)
         timing_run(sheet, length, words[0], listing, sizeof listing, answer);
     else if (strcmp(call, "run_2") == 0)
         timing_run_2(sheet, length, words[0], listing, sizeof listing, answer);
+    else if (strcmp(call, "convert_1_to_2") == 0)
+        timing_convert_1_to_2(sheet, length, output, sizeof output, answer);
+    else if (strcmp(call, "convert_2_to_1") == 0)
+        timing_convert_2_to_1(sheet, length, output, sizeof output, answer);
     else
         timing_describe(words[0], words[1], words[2], text, sizeof text, answer);
     used = frame - lowest_touched(stack);

@@ -6,10 +6,17 @@ use plain::{worked_run, Edition};
 use crate::compiled::Program;
 use crate::header::macro_of;
 
-/// Refused at once, small, and every section at its limit.
+/// Refused at once, small, and every section at its limit. Of those in the second edition half have the
+/// first's kinds alone, so that they are converted.
 fn sheets(edition: Edition) -> Vec<Vec<u8>> {
-    let mut generator = Generator::of(edition, 5);
-    let full = (0..8).map(|_| generator.valid(Size::Full).encode(edition));
+    let kinds_of = match edition {
+        Edition::First => &[Edition::First][..],
+        Edition::Second => &Edition::ALL,
+    };
+    let full = kinds_of.iter().flat_map(|&kinds_of| {
+        let mut generator = Generator::of(kinds_of, 5);
+        (0..8).map(move |_| generator.valid(Size::Full).encode(edition))
+    });
     let others = [Vec::new(), worked_run::sheet().encode(edition)];
     others.into_iter().chain(full).collect()
 }
@@ -52,13 +59,22 @@ fn stated(name: &str, used: u32) {
 #[test]
 fn the_stack_of_every_call() {
     let program = Program::new("stack");
-    for (edition, check, check_strict, run) in [
-        (Edition::First, "check", "check_strict", "run"),
-        (Edition::Second, "check_2", "check_strict_2", "run_2"),
+    for (edition, [check, check_strict, convert], run) in [
+        (
+            Edition::First,
+            ["check", "check_strict", "convert_1_to_2"],
+            "run",
+        ),
+        (
+            Edition::Second,
+            ["check_2", "check_strict_2", "convert_2_to_1"],
+            "run_2",
+        ),
     ] {
         let most_used = |arguments: &[&str]| most_used(&program, edition, arguments);
         stated("TIMING_CHECK_STACK", most_used(&[check]));
         stated("TIMING_CHECK_STACK", most_used(&[check_strict]));
+        stated("TIMING_CHECK_STACK", most_used(&[convert]));
         stated("TIMING_RUN_STACK", most_used(&[run, "2000"]));
     }
     stated("TIMING_DESCRIBE_STACK", most_described(&program));

@@ -2,6 +2,7 @@
 //! 01's, and those that the source documents print.
 
 mod agreed;
+mod converted;
 mod document_01;
 mod ends;
 mod event_driven;

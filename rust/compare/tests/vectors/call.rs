@@ -11,6 +11,7 @@ pub struct Simulator {
     check: fn(Edition, &[u8]) -> [u32; 3],
     check_strict: fn(Edition, &[u8]) -> [u32; 3],
     run: fn(Edition, &[u8], u32, &mut [u8]) -> [u32; 3],
+    convert: fn(Edition, &[u8], &mut [u8]) -> [u32; 3],
 }
 
 pub const PROVED: Simulator = Simulator {
@@ -18,6 +19,7 @@ pub const PROVED: Simulator = Simulator {
     check: compare::check,
     check_strict: compare::check_strict,
     run: compare::run,
+    convert: compare::convert,
 };
 
 pub const PLAIN: Simulator = Simulator {
@@ -25,6 +27,7 @@ pub const PLAIN: Simulator = Simulator {
     check: |edition, sheet| plain::check(edition, sheet).triple(),
     check_strict: |edition, sheet| plain::check_strict(edition, sheet).triple(),
     run: |edition, sheet, horizon, listing| plain::run(edition, sheet, horizon, listing).triple(),
+    convert: |from, sheet, output| plain::convert(from, sheet, output).triple(),
 };
 
 impl Simulator {
@@ -38,14 +41,11 @@ impl Simulator {
         match (vector.call, &vector.numbers[..]) {
             ("check", []) => answered((self.check)(edition, sheet)),
             ("check_strict", []) => answered((self.check_strict)(edition, sheet)),
-            ("run", &[length]) => {
-                let length = length as usize;
-                let mut listing = untouched(length);
-                let answer = (self.run)(edition, sheet, horizon, listing.lent());
-                Outcome {
-                    answer,
-                    buffers: vec![left(&listing, length)],
-                }
+            ("run", &[length]) => over_buffer(length, |listing| {
+                (self.run)(edition, sheet, horizon, listing)
+            }),
+            ("convert", &[length]) => {
+                over_buffer(length, |output| (self.convert)(edition, sheet, output))
             }
             (call, numbers) => panic!("line {}: {call} with {numbers:?}", vector.line),
         }
@@ -57,6 +57,18 @@ fn answered(answer: [u32; 3]) -> Outcome {
     Outcome {
         answer,
         buffers: Vec::new(),
+    }
+}
+
+/// What a call that is lent one buffer comes to. One of no bytes has no field in a vector.
+fn over_buffer(length: u32, call: impl FnOnce(&mut [u8]) -> [u32; 3]) -> Outcome {
+    let length = length as usize;
+    let mut buffer = untouched(length);
+    let answer = call(buffer.lent());
+    let left = left(&buffer, length);
+    Outcome {
+        answer,
+        buffers: if length == 0 { vec![] } else { vec![left] },
     }
 }
 

@@ -15,6 +15,9 @@ const AFTER_204: &str = include_str!("after-204.txt");
 /// Those up to W-205, in both editions. What the file before says holds as well.
 const AFTER_205: &str = include_str!("after-205.txt");
 
+/// Those up to W-207: conversions from each edition to the other, and what the files before have.
+const AFTER_207: &str = include_str!("after-207.txt");
+
 /// Asserts that both simulators give every vector's outcome, and that there are so many of each call in
 /// each edition.
 fn hold(text: &str, calls: &[(Edition, &str, usize)]) {
@@ -56,4 +59,19 @@ fn after_205() {
         (Edition::Second, "run", 130),
     ];
     hold(AFTER_205, &calls);
+}
+
+#[test]
+fn after_207() {
+    let calls = [
+        (Edition::First, "check", 28),
+        (Edition::First, "check_strict", 35),
+        (Edition::First, "run", 44),
+        (Edition::First, "convert", 156),
+        (Edition::Second, "check", 28),
+        (Edition::Second, "check_strict", 34),
+        (Edition::Second, "run", 45),
+        (Edition::Second, "convert", 152),
+    ];
+    hold(AFTER_207, &calls);
 }

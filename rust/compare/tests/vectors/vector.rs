@@ -1,5 +1,5 @@
 //! A vector is a line, its fields divided by tabs: the sheet's edition, the call, its numbers, the
-//! horizon, the sheet, the answer, and each lent buffer.
+//! horizon, the sheet, the answer, and each lent buffer that has a byte.
 
 use plain::Edition;
 
@@ -15,7 +15,7 @@ pub struct Vector<'a> {
     pub line: usize,
     pub edition: Edition,
     pub call: &'a str,
-    /// For a run, the bytes of the listing's buffer.
+    /// For a run, the bytes of the listing's buffer, and for a conversion, of the output's.
     pub numbers: Vec<u32>,
     pub horizon: u32,
     pub sheet: Vec<u8>,

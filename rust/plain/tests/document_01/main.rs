@@ -1,5 +1,6 @@
 //! The plain simulator against document 01: its examples, and what it says of each part.
 
+mod conversion;
 mod drive;
 mod ends;
 mod examples;

@@ -1,0 +1,4 @@
+-- A sheet of one edition in the other.
+pub mod Converted
+pub mod Conversion
+pub mod Examples

@@ -1,0 +1,90 @@
+//! Sheets to be converted to the other edition, and outputs for them.
+//!
+//! Most sheets of the second edition have many modules of kinds that the first lacks, so they are mixed
+//! with sheets that have none, or one or two, which may be the first in the list, the last or any.
+
+use std::mem;
+
+use plain::{Edition, Module, Sheet};
+
+use crate::Generator;
+
+/// The length of an output, seen from the length that is needed.
+#[derive(Debug, Clone, Copy, PartialEq, Eq)]
+pub enum Output {
+    /// No byte at all.
+    Empty,
+    ByteShort,
+    Exact,
+    ByteLong,
+    /// Anything up to twice the length that is needed.
+    Any,
+}
+
+impl Output {
+    pub const ALL: [Output; 5] = [
+        Output::Empty,
+        Output::ByteShort,
+        Output::Exact,
+        Output::ByteLong,
+        Output::Any,
+    ];
+}
+
+impl Generator {
+    /// The bytes of a sheet, good or bad, to be converted to the other edition.
+    pub fn to_convert(&mut self) -> Vec<u8> {
+        let modules_to_widen = match (self.edition, self.random.between(0, 9)) {
+            (Edition::First, _) | (_, 0..=3) => return self.any(),
+            (_, 4..=6) => 0,
+            (_, 7..=8) => 1,
+            _ => 2,
+        };
+        let mut sheet = self.of_first_kinds();
+        for _ in 0..modules_to_widen {
+            self.widen_a_module(&mut sheet);
+        }
+        sheet.encode(self.edition)
+    }
+
+    /// A sheet as it is made in the first edition, good or with a fault.
+    fn of_first_kinds(&mut self) -> Sheet {
+        let edition = mem::replace(&mut self.edition, Edition::First);
+        let sheet = self.base_or_faulty();
+        self.edition = edition;
+        sheet
+    }
+
+    /// Gives the first module, the last one or any a kind of three inputs. What it reads now is what it
+    /// read before, so that it closes no loop; a constant, which read nothing, gets a delay.
+    fn widen_a_module(&mut self, sheet: &mut Sheet) {
+        let Some(last) = sheet.modules.len().checked_sub(1) else {
+            return;
+        };
+        let any = self.random.place(last + 1);
+        let place = self.random.pick(&[0, last, any]);
+        let module = sheet.modules[place];
+        let read = module.used_inputs().last();
+        let mut wide = Module {
+            kind: self.widest_kind(),
+            parameter: 0,
+            delay: module.delay.max(u16::from(read.is_none())),
+            ..module
+        };
+        for input in wide.used_inputs_mut().skip(module.input_count()) {
+            *input = read.unwrap_or(0);
+        }
+        sheet.modules[place] = wide;
+    }
+
+    /// The bytes of such an output where so many are needed.
+    pub fn output_bytes(&mut self, output: Output, needed: usize) -> usize {
+        match output {
+            Output::Empty => 0,
+            Output::ByteShort => needed.saturating_sub(1),
+            Output::Exact => needed,
+            Output::ByteLong => needed + 1,
+            Output::Any => self.random.between(0, 2 * needed),
+        }
+    }
+}
