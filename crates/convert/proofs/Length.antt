@@ -1,24 +1,19 @@
 -- How long a converted sheet is: as many bytes as the given one, but for its module records. Assumes nothing.
 use mathlib.Core.List.{List, _++_}
 use mathlib.Core.Path.{_≡_, _∙_}
-use Prim.Native.Nat.{ℕ, zero, suc, _+_, _-_, _*_, _<_, _≤_}
-use native.Mathlib.Nat.{le-step, lt-suc-self, mul-zero, mul-suc, mul-le-mul}
+use Prim.Native.Nat.{ℕ, _+_, _-_, _*_, _≤_}
+use native.Mathlib.Nat.{mul-le-mul}
 use native.Mathlib.Omega.{arith}
 use lib.ListN.{length, take, drop, length-append, length-take, length-drop}
 use Rattle.sheet.specs.declared.Edition.{Edition}
 use Rattle.sheet.specs.Enumerate.{each}
 use Rattle.sheet.specs.Layout.{firstEdition, secondEdition, modulesCounted, modulePlace, delayPlace, drivePlace}
+use Rattle.sheet.proofs.Each.{each-length}
 use Rattle.sheet.proofs.Parts.{node-count, module-count, event-count, watched-count}
 use Rattle.format.specs.Accepted.{Known, the-first, the-second, AcceptedIn}
 use Rattle.convert.specs.Converted.{part, convertedRecord, recordsPlace, converted, needed}
 use Rattle.convert.proofs.Record.{part-length, delay-ends, inputs-within}
 use Rattle.convert.proofs.Written.{record-within}
-
-each-length : (size n : ℕ) (f : ℕ → List ℕ) → ((k : ℕ) → k < n → length (f k) ≡ size) → length (each n f) ≡ size * n
-unfolding each
-each-length size zero f h = omega (arith, mul-zero size)
-each-length size (suc n) f h =
-    length-append (each n f) (f n) ∙ omega (arith, each-length size n f (λ k l. h k (le-step l)), h n (lt-suc-self n), mul-suc size n)
 
 record-length : {from to : Edition} → Known from → Known to → (s : List ℕ) (p : ℕ) → p + from .size ≤ length s → length (convertedRecord from to s p) ≡ to .size
 record-length {from} known known′ s p h = sized known′

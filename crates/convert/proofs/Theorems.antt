@@ -56,8 +56,8 @@ module _ (from to : Edition) (s : List ℕ) {output : List ℕ} {answer : Outcom
         (made-same call (made-whole (converted from to s) output (none-refused from to s ok kinds) (omega (arith, h, long))))
 
 -- The second edition has the first's kinds.
-has-all : (s : List ℕ) → checked firstEdition s ≡ finished 0 → HasKinds secondEdition (sheetOf firstEdition s)
-has-all s ok m h = omega (arith, accepted firstEdition the-first s ok .kinds m h)
+pub second-has-all : (s : List ℕ) → checked firstEdition s ≡ finished 0 → HasKinds secondEdition (sheetOf firstEdition s)
+second-has-all s ok m h = omega (arith, accepted firstEdition the-first s ok .kinds m h)
 
 -- (b) First to second succeeds for every accepted sheet and an output that takes it.
 pub first-to-second : (s : List ℕ) {output : List ℕ} {answer : Outcome} {after : List ℕ} → Converts firstEdition secondEdition s output answer after
@@ -65,7 +65,7 @@ pub first-to-second : (s : List ℕ) {output : List ℕ} {answer : Outcome} {aft
     → (answer ≡ finished (length s + modulesCounted s)) × (after ≡ converted firstEdition secondEdition s ++ drop (length s + modulesCounted s) output)
 first-to-second s {output} {answer} {after} call ok h =
     subst (λ n. n ≤ length output → (answer ≡ finished n) × (after ≡ converted firstEdition secondEdition s ++ drop n output))
-    (longer s (accepted firstEdition the-first s ok)) (succeeds firstEdition secondEdition s call the-first the-second ok (has-all s ok)) h
+    (longer s (accepted firstEdition the-first s ok)) (succeeds firstEdition secondEdition s call the-first the-second ok (second-has-all s ok)) h
 
 -- Second to first does if kinds 10 to 15 are absent.
 pub second-to-first : (s : List ℕ) {output : List ℕ} {answer : Outcome} {after : List ℕ} → Converts secondEdition firstEdition s output answer after

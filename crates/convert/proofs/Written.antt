@@ -1,32 +1,26 @@
 -- A sheet that its edition accepts, converted to an edition that has its kinds, is what the sheet in its bytes is written as there. So it is read as the
 -- same sheet, accepted where the given one was, and converted back to it. Assumes nothing.
-use mathlib.Core.List.{List, [], _∷_, _++_, append-assoc, append-nil}
-use mathlib.Core.Path.{_≡_, refl, sym, ap, _∙_, subst}
-use Prim.Native.Nat.{ℕ, zero, suc, _+_, _*_, _<_, _≤_}
+use mathlib.Core.List.{List, _++_, append-assoc}
+use mathlib.Core.Path.{_≡_, sym, ap, _∙_}
+use Prim.Native.Nat.{ℕ, _+_, _<_, _≤_}
 use native.Mathlib.Nat.{mul-le-mul-left, mul-suc}
 use native.Mathlib.Omega.{arith}
 use lib.ListN.{length, take, drop, length-append}
 use lib.Seq.{take-at, drop-at}
 use Rattle.sheet.specs.declared.Edition.{Edition}
-use Rattle.sheet.specs.Enumerate.{each, listed}
+use Rattle.sheet.specs.Enumerate.{each}
 use Rattle.sheet.specs.Layout.{modulesCounted, modulePlace, moduleAt, drivePlace, sheetOf}
 use Rattle.sheet.specs.Sheet.{Sheet}
 use Rattle.sheet.proofs.Each.{each-same}
 use Rattle.sheet.proofs.Parts.{node-count, module-count}
 use Rattle.format.specs.Accepted.{Known, HasKinds, AcceptedIn, StrictlyAcceptedIn}
 use Rattle.format.specs.Encode.{wordBytes, moduleBytes, eventBytes, allBytes, encode, Bytes}
-use Rattle.format.proofs.AllBytes.{allBytes-append, length-allBytes}
+use Rattle.format.proofs.AllBytes.{each-bytes, length-allBytes}
 use Rattle.format.proofs.EncodeRead.{reading-encoded}
 use Rattle.format.proofs.EncodeRecord.{module-length}
 use Rattle.network.proofs.Written.{read-back, written-bytes, written-accepted, written-strictly}
 use Rattle.convert.specs.Converted.{convertedRecord, recordsPlace, converted}
 use Rattle.convert.proofs.Record.{converted-record}
-
--- the bytes of records that are given by their numbers
-bytes-listed {ℓ} : {A : Type ℓ} (bytes : A → List ℕ) (n : ℕ) (f : ℕ → A) → allBytes bytes (listed n f) ≡ each n (λ i. bytes (f i))
-unfolding each allBytes
-bytes-listed bytes zero f = refl
-bytes-listed bytes (suc n) f = allBytes-append bytes (listed n f) (f n ∷ []) ∙ rw (bytes-listed bytes n f, append-nil (bytes (f n)))
 
 -- what stands before the module records, and after them
 front : Sheet → List ℕ
@@ -73,9 +67,8 @@ module _ {from : Edition} (known : Known from) (s : List ℕ) (ok : AcceptedIn f
       records-converted : each (modulesCounted s) (λ m. convertedRecord from to s (modulePlace from s m)) ≡ allBytes (moduleBytes to) (S .modules)
       unfolding sheetOf
       records-converted =
-          sym
-          (bytes-listed (moduleBytes to) (modulesCounted s) (moduleAt from s)
-          ∙ each-same (modulesCounted s) _ _ (λ m h. converted-record known known′ s bytes (modulePlace from s m) (record-within m h)))
+          sym (each-same (modulesCounted s) _ _ (λ m h. converted-record known known′ s bytes (modulePlace from s m) (record-within m h)))
+          ∙ each-bytes (moduleBytes to) (modulesCounted s) (moduleAt from s)
 
       pub converted-is : converted from to s ≡ encode to S
       unfolding converted

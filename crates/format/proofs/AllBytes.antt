@@ -1,11 +1,12 @@
 -- The bytes of records of one size in a row. Assumes nothing.
-use mathlib.Core.List.{List, [], _∷_, _++_, append-assoc}
+use mathlib.Core.List.{List, [], _∷_, _++_, append-assoc, append-nil}
 use mathlib.Core.Path.{_≡_, refl, sym, _∙_}
 use Prim.Native.Nat.{ℕ, zero, suc, _+_, _*_, _<_}
 use native.Mathlib.Nat.{le-of-suc-le-suc, not-suc-le-zero}
 use native.Mathlib.Omega.{arith}
 use lib.ListN.{length, getD, length-append, List·getD-append}
 use lib.Seq.{getD-append-add}
+use Rattle.sheet.specs.Enumerate.{each, listed}
 use Rattle.format.specs.Encode.{allBytes}
 
 module _ {ℓ} {A : Type ℓ} where
@@ -13,6 +14,12 @@ module _ {ℓ} {A : Type ℓ} where
   unfolding allBytes
   allBytes-append bytes [] qs = refl
   allBytes-append bytes (r ∷ rs) qs = rw (allBytes-append bytes rs qs) (sym (append-assoc (bytes r) (allBytes bytes rs) (allBytes bytes qs)))
+
+  -- records that are given by their numbers
+  pub each-bytes : (bytes : A → List ℕ) (n : ℕ) (f : ℕ → A) → each n (λ i. bytes (f i)) ≡ allBytes bytes (listed n f)
+  unfolding each allBytes
+  each-bytes bytes zero f = refl
+  each-bytes bytes (suc n) f = rw (each-bytes bytes n f, allBytes-append bytes (listed n f) (f n ∷ []), append-nil (bytes (f n)))
 
   -- records of one size, the bytes of each in a row
   module _ (size : ℕ) (bytes : A → List ℕ) (sized : (r : A) → length (bytes r) ≡ size) where

@@ -9,7 +9,7 @@ use Prim.Native.Nat.{ℕ, _<_, _≤_}
 use Rattle.sheet.specs.Layout.{sheetOf}
 use Rattle.sheet.specs.Outcome.{Outcome, finished}
 use Rattle.sheet.specs.Refusal.{checked, checkedStrictly}
-use Rattle.sheet.specs.Sheet.{Sheet, moduleCount, moduleOf, nodeCount}
+use Rattle.sheet.specs.Sheet.{Sheet, moduleCount, nodeCount}
 use Rattle.sheet.specs.WorkingOrder.{workingOrder}
 use Rattle.sheet.specs.declared.Edition.{Edition}
 use Rattle.format.specs.Accepted.{Accepted, AcceptedIn, Known, HasKinds}

@@ -1,15 +1,14 @@
 -- What is printed of a run, by its records: a line for each of them, in a text of known length. Assumes nothing.
-use mathlib.Core.List.{List, [], _∷_, _++_, append-nil, List·Memᴰ, List·Memᴰ·head, List·Memᴰ·tail}
+use mathlib.Core.List.{List, [], _∷_, _++_, List·Memᴰ, List·Memᴰ·head, List·Memᴰ·tail}
 use mathlib.Core.Path.{_≡_, refl, ap, _∙_}
 use native.Mathlib.Omega.{arith}
-use Prim.Native.Nat.{ℕ, zero, suc, _*_, _<_, _≤_}
+use Prim.Native.Nat.{ℕ, _*_, _<_, _≤_}
 use lib.ListN.{length, getD, length-append}
 use Rattle.level.specs.Level.{printed}
-use Rattle.sheet.specs.Enumerate.{each, listed}
 use Rattle.sheet.proofs.Each.{each-same}
 use Rattle.sheet.proofs.Listed.{listed-is}
 use Rattle.format.specs.Encode.{allBytes}
-use Rattle.format.proofs.AllBytes.{allBytes-append}
+use Rattle.format.proofs.AllBytes.{each-bytes}
 use Rattle.network.specs.Ends.{Ended}
 use Rattle.network.specs.Buffer.{bufferAfter}
 use Rattle.listing.proofs.ReadBack.{Small, read-back}
@@ -21,16 +20,11 @@ use Rattle.text.specs.Printing.{blank, newline, recordLine, recordLines}
 abbrev pub linesOf : List Ended → List ℕ
 linesOf records = allBytes recordLine records
 
-each-lines : (n : ℕ) (f : ℕ → Ended) → each n (λ i. recordLine (f i)) ≡ linesOf (listed n f)
-unfolding each allBytes
-each-lines zero f = refl
-each-lines (suc n) f = rw (each-lines n f, allBytes-append recordLine (listed n f) (f n ∷ []), append-nil (recordLine (f n)))
-
 pub lines-printed : (records : List Ended) (buffer : List ℕ) (n : ℕ) → n ≡ length records → ((r : Ended) → List·Memᴰ r records → Small r)
     → recordLines n (bufferAfter records buffer) ≡ linesOf records
 lines-printed records buffer n count small =
     each-same n _ (λ i. recordLine (getD records i none)) (λ i h. ap recordLine (read-back records buffer none small i (rw (← count) h)))
-    ∙ each-lines n (λ i. getD records i none)
+    ∙ each-bytes recordLine n (λ i. getD records i none)
     ∙ ap linesOf (listed-is records none n (λ i. getD records i none) count (λ i h. refl))
   where
     none : Ended

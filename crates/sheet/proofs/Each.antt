@@ -1,11 +1,12 @@
--- What is put in a row for each number below a bound: what stands in it, and two that are the same. Assumes nothing.
+-- What is put in a row for each number below a bound: what stands in it, two that are the same, and how long it is. Assumes nothing.
 use mathlib.Core.List.{List, _++_, List·Memᴰ, List·Memᴰ·not-nil, List·Memᴰ·append-cases, Memᴰ·append-left, Memᴰ·append-right}
 use mathlib.Core.Logic.{_↔_, _⊎_, inl, inr}
-use mathlib.Core.Path.{_≡_, refl, ap₂, subst}
+use mathlib.Core.Path.{_≡_, refl, ap₂, _∙_, subst}
 use native.Mathlib.Decide.{ℕ-discrete}
 use native.Mathlib.Nat.{not-suc-le-zero, le-step, lt-suc-self}
 use native.Mathlib.Omega.{arith}
-use Prim.Native.Nat.{ℕ, zero, suc, _<_}
+use Prim.Native.Nat.{ℕ, zero, suc, _*_, _<_}
+use lib.ListN.{length, length-append}
 use Rattle.sheet.specs.Enumerate.{each}
 
 pub each-mem {ℓ} : {A : Type ℓ} {a : A} (n : ℕ) (f : ℕ → List A) → List·Memᴰ a (each n f) ↔ ((i : ℕ) × (i < n) × List·Memᴰ a (f i))
@@ -29,3 +30,9 @@ pub each-same {ℓ} : {A : Type ℓ} (n : ℕ) (f g : ℕ → List A) → ((k : 
 unfolding each
 each-same zero f g h = refl
 each-same (suc n) f g h = ap₂ _++_ (each-same n f g (λ k l. h k (le-step l))) (h n (lt-suc-self n))
+
+-- what has one length
+pub each-length {ℓ} : {A : Type ℓ} (size n : ℕ) (f : ℕ → List A) → ((k : ℕ) → k < n → length (f k) ≡ size) → length (each n f) ≡ size * n
+unfolding each
+each-length size zero f h = omega arith
+each-length size (suc n) f h = length-append (each n f) (f n) ∙ omega (arith, each-length size n f (λ k l. h k (le-step l)), h n (lt-suc-self n))

@@ -82,7 +82,7 @@ pub fn second_edition() -> Edition
     }
 }
 
-// What a check and a run answer.
+// What a call answers.
 pub enum Answer {
     // A finished call, with its count.
     Ran(u32),

@@ -73,6 +73,17 @@ answered c = c .or-else .ensures ∙ ap₂ orElse kinds (c .before .length-answe
     long : length (converted from to s) ≡ c .before .before .length-needed .result
     long = converted-length (c .before .before .before .before .before .before .before .before .pre .0) s (ok (c .before .before .before .before)) (c .before .before .before .before .before .before .before .before .pre .1) ∙ ap (λ n. length s - from .size * n + to .size * n) (sym (count-is (c .before .before .before .before))) ∙ sym (c .before .before .length-needed .ensures)
 
+-- a success is written
+returns-2 : tie.Need-returns-2
+returns-2 c =
+    let a = c .before .before .before .before .before .before .before .before .before .before .before .before .before .before .args in
+    let C = converted (a .from) (a .to) (a .sheet .now) in
+    let told = ap outcomeOf (c .before .before .before .before .enum-told .given .1) in
+    let made = answers {before = first (conversionRows (a .from) (a .to) (a .sheet .now))} C (a .output .now) (sym (answered (c .before .before .before .before .before .before)) ∙ told) in
+    let put = whole (c .before .before .put-sheet .ensures _ [] (none-printed _)) (success made .fits) in
+    record { answered = answered (c .before .before .before .before .before .before); left = put .1 ∙ made .left }
+
+-- a refusal is not
 returns : tie.Need-returns
 returns c =
     let a = c .before .before .before .before .before .before .before .before .before .before .args in
@@ -83,15 +94,6 @@ returns c =
 
 put-sheet-requires : tie.Need-put-sheet-requires
 put-sheet-requires c κs = (c .before .before .before .before .before .before .before .before .before .before .before .pre .0, place-is (c .before .before .before .before .before .before .before), count-is (c .before .before .before .before .before .before .before), within (c .before .before .before .before .before .before .before), short (c .before .before .before .before .before .before .before))
-
-returns-2 : tie.Need-returns-2
-returns-2 c =
-    let a = c .before .before .before .before .before .before .before .before .before .before .before .before .before .before .args in
-    let C = converted (a .from) (a .to) (a .sheet .now) in
-    let told = ap outcomeOf (c .before .before .before .before .enum-told .given .1) in
-    let made = answers {before = first (conversionRows (a .from) (a .to) (a .sheet .now))} C (a .output .now) (sym (answered (c .before .before .before .before .before .before)) ∙ told) in
-    let put = whole (c .before .before .put-sheet .ensures _ [] (none-printed _)) (success made .fits) in
-    record { answered = answered (c .before .before .before .before .before .before); left = put .1 ∙ made .left }
 
 pub convert-spec : {M : Type 1} → statement M
 convert-spec =

@@ -5,7 +5,6 @@ use mathlib.Core.Path.{_≡_, sym, ap, _∙_}
 use Prim.Native.Nat.{_+_, _-_, _*_, _≤_}
 use native.Mathlib.Omega.{arith}
 use Rattle.sheet.specs.Enumerate.{each}
-use Rattle.sheet.specs.Layout.{modulePlace}
 use Rattle.sheet.specs.Outcome.{finished}
 use Rattle.sheet.specs.Refusal.{first}
 use Rattle.sheet.proofs.Rows.{none-yet, all-passed, passed-each, refused-each}
