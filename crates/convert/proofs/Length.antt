@@ -2,15 +2,16 @@
 use mathlib.Core.List.{List, _++_}
 use mathlib.Core.Path.{_≡_, _∙_}
 use Prim.Native.Nat.{ℕ, _+_, _-_, _*_, _≤_}
-use native.Mathlib.Nat.{mul-le-mul}
 use native.Mathlib.Omega.{arith}
 use lib.ListN.{length, take, drop, length-append, length-take, length-drop}
 use Rattle.sheet.specs.declared.Edition.{Edition}
 use Rattle.sheet.specs.Enumerate.{each}
 use Rattle.sheet.specs.Layout.{firstEdition, secondEdition, modulesCounted, modulePlace, delayPlace, drivePlace}
 use Rattle.sheet.proofs.Each.{each-length}
-use Rattle.sheet.proofs.Parts.{node-count, module-count, event-count, watched-count}
+use Rattle.sheet.proofs.Parts.{module-count}
 use Rattle.format.specs.Accepted.{Known, the-first, the-second, AcceptedIn}
+use Rattle.format.proofs.Accepted.{few-bytes, conversely}
+use Rattle.format.proofs.Theorems.{longest}
 use Rattle.convert.specs.Converted.{part, convertedRecord, recordsPlace, converted, needed}
 use Rattle.convert.proofs.Record.{part-length, delay-ends, inputs-within}
 use Rattle.convert.proofs.Written.{record-within}
@@ -28,10 +29,6 @@ record-length {from} known known′ s p h = sized known′
     sized the-first = rw (length-append, length-append, fields, delay)
     sized the-second = rw (length-append, length-append, fields, delay)
 
-pub few-bytes : {E : Edition} → Known E → E .size ≤ 8
-few-bytes the-first = omega arith
-few-bytes the-second = omega arith
-
 module _ {from : Edition} (known : Known from) (s : List ℕ) (ok : AcceptedIn from s) where
   pub records-within : recordsPlace s + from .size * modulesCounted s ≤ length s
   records-within = omega (arith, ok .whole)
@@ -40,8 +37,7 @@ module _ {from : Edition} (known : Known from) (s : List ℕ) (ok : AcceptedIn f
   few-modules = omega (arith, ok .sheet .modules, module-count from s)
 
   pub short-sheet : length s ≤ 65535
-  short-sheet =
-      omega (arith, ok .whole, ok .sheet .nodes, node-count from s, mul-le-mul (few-bytes known) few-modules, ok .sheet .events, event-count from s, ok .sheet .watched, watched-count from s)
+  short-sheet = omega (arith, longest known s (conversely from known s ok), few-bytes known)
 
   pub converted-length : {to : Edition} → Known to → length (converted from to s) ≡ needed from to s
   unfolding converted

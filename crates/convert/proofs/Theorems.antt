@@ -1,5 +1,6 @@
 -- The theorems of conversion between editions, each with the file that proves it. They assume nothing: they hold of all lists of numbers, or of all bytes where they say so.
 use mathlib.Core.List.{List, [], _∷_, _++_, append-nil}
+use mathlib.Core.Logic.{_↔_}
 use mathlib.Core.Path.{_≡_, refl, sym, ap, _∙_, subst}
 use Prim.Native.Nat.{ℕ, _+_, _-_, _<_, _≤_}
 use native.Mathlib.Omega.{arith}
@@ -8,13 +9,15 @@ use lib.Seq.{take-at}
 use Rattle.sheet.specs.declared.Edition.{Edition}
 use Rattle.sheet.specs.Layout.{firstEdition, secondEdition, modulesCounted, modulePlace, moduleAt, sheetOf}
 use Rattle.sheet.specs.Outcome.{Outcome, finished, refused}
-use Rattle.sheet.specs.Refusal.{checked, checkedStrictly}
+use Rattle.sheet.specs.Refusal.{first, checked, checkedStrictly}
 use Rattle.sheet.specs.Sheet.{moduleCount, moduleOf}
 use Rattle.sheet.proofs.Rows.{count-0}
 use Rattle.format.specs.Accepted.{Known, the-first, the-second, HasKinds, AcceptedIn}
 use Rattle.format.specs.Encode.{encode, Bytes}
+use Rattle.format.specs.FirstMet.{FirstMet}
 use Rattle.format.specs.Made.{outputShort}
 use Rattle.format.proofs.Accepted.{accepted, conversely, strictly, strictly-conversely}
+use Rattle.format.proofs.FirstMet.{first-met, first-refused}
 use Rattle.format.proofs.Made.{refused-before, refused-short, made-whole, made-same, success}
 use Rattle.network.specs.Buffer.{bufferAfter}
 use Rattle.network.specs.Run.{ran, RunLeaves}
@@ -32,7 +35,7 @@ pub loses : (s : List ℕ) (p : ℕ) → convertedRecord secondEdition firstEdit
 loses s p = ap (λ l. l ++ part s (p + 6) 2) (append-nil (part s p 5))
 
 -- (a) A conversion answers, in this order: what the sheet's own edition refuses; 22 at the first record of a kind that the other edition lacks; 23 with
--- the length needed; a success. Every sheet and output meets one of these conditions. A refusal leaves the output as it was.
+-- the length needed; a success. A refusal leaves the output as it was.
 module _ (from to : Edition) (s : List ℕ) {output : List ℕ} {answer : Outcome} {after : List ℕ} (call : Converts from to s output answer after) where
   pub refused-by-its-own : {n p : ℕ} → checked from s ≡ refused n p 0 → (answer ≡ refused n p 0) × (after ≡ output)
   refused-by-its-own e = made-same call (refused-before (converted from to s) output (own-refused from to s e))
@@ -54,6 +57,10 @@ module _ (from to : Edition) (s : List ℕ) {output : List ℕ} {answer : Outcom
     succeeds h =
         subst (λ n. (answer ≡ finished n) × (after ≡ converted from to s ++ drop n output)) long
         (made-same call (made-whole (converted from to s) output (none-refused from to s ok kinds) (omega (arith, h, long))))
+
+-- Before the output is looked at, a refusal is given exactly where its row is the first that is met.
+pub refused-first : (from to : Edition) (s : List ℕ) (n p : ℕ) → (first (conversionRows from to s) ≡ refused n p 0) ↔ FirstMet (conversionRows from to s) n p
+refused-first from to s n p = (first-met (conversionRows from to s) n p, first-refused (conversionRows from to s) n p)
 
 -- The second edition has the first's kinds.
 pub second-has-all : (s : List ℕ) → checked firstEdition s ≡ finished 0 → HasKinds secondEdition (sheetOf firstEdition s)

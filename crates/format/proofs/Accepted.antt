@@ -26,10 +26,14 @@ use Rattle.sheet.proofs.Parts.{node-count, node-byte, module-count, module-of, 
 use Rattle.format.proofs.Condition.{tells-input, tells-at-start}
 use Rattle.format.proofs.Checked.{finished-iff}
 
--- a known edition's module records have some size, and its kinds have rules
+-- a known edition's module records have some size, of few bytes, and its kinds have rules
 pub some-size : {E : Edition} → Known E → 0 < E .size
 some-size the-first = lit< tt
 some-size the-second = lit< tt
+
+pub few-bytes : {E : Edition} → Known E → E .size ≤ 8
+few-bytes the-first = lit≤ tt
+few-bytes the-second = lit≤ tt
 
 pub with-rules : {E : Edition} → Known E → E .greatest ≤ lastKind
 with-rules the-first = lit≤ tt

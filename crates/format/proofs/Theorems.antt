@@ -7,7 +7,7 @@ use Prim.Native.Nat.{ℕ, _+_, _*_, _<_, _≤_}
 use native.Mathlib.Nat.{mul-le-mul-left}
 use native.Mathlib.Omega.{arith}
 use borrow.Author.Tests.{ltb-true, ltb-false}
-use lib.Dec.{ltb, lit≤}
+use lib.Dec.{ltb}
 use lib.ListN.{length, List·getD-eq-default}
 use Rattle.sheet.specs.declared.Edition.{Edition}
 use Rattle.sheet.specs.Sheet.{Sheet, noModule, moduleOf, eventCount, eventOf}
@@ -21,7 +21,7 @@ use Rattle.format.specs.Encode.{encode, Bytes, Encodable, OneByteEach}
 use Rattle.format.specs.Condition.{ConditionBy, FirstConditionBy}
 use Rattle.format.proofs.Checked.{answers, finished-iff, refused-first, refused-met}
 use Rattle.format.proofs.Table.{strict-at-15}
-use Rattle.format.proofs.Accepted.{some-size, accepted, conversely, strictly, strictly-conversely}
+use Rattle.format.proofs.Accepted.{some-size, few-bytes, accepted, conversely, strictly, strictly-conversely}
 use Rattle.format.proofs.Strict.{same-or-15}
 use Rattle.format.proofs.Loop.{loop-refused}
 use Rattle.format.proofs.Order.{drive-order}
@@ -78,7 +78,7 @@ pub read-fits : {E : Edition} → Known E → (s : List ℕ) → Bytes s → Enc
 read-fits known s bytes = (encodable known s bytes, one-byte-each known s bytes)
 
 -- 256 modules leave no input and so no event: with events there are 255 at most.
-longest : {E : Edition} → Known E → (s : List ℕ) → checked E s ≡ finished 0 → length s ≤ 6664 + E .size * 255
+pub longest : {E : Edition} → Known E → (s : List ℕ) → checked E s ≡ finished 0 → length s ≤ 6664 + E .size * 255
 longest {E} known s c = by (ltb 0 (eventCount (sheetOf E s))) refl
   where
     acc : AcceptedIn E s
@@ -87,10 +87,6 @@ longest {E} known s c = by (ltb 0 (eventCount (sheetOf E s))) refl
     a : Accepted (sheetOf E s)
     a = acc .sheet
 
-    short : {E : Edition} → Known E → E .size ≤ 8
-    short the-first = lit≤ tt
-    short the-second = lit≤ tt
-
     by : (b : Bool) → ltb 0 (eventCount (sheetOf E s)) ≡ b → length s ≤ 6664 + E .size * 255
     by true e =
         let fewer : modulesCounted s ≤ 255 = omega (arith, a .nodes, fewer-modules (sheetOf E s) a (ltb-true 0 (eventCount (sheetOf E s)) e), module-count E s) in
@@ -98,7 +94,7 @@ longest {E} known s c = by (ltb 0 (eventCount (sheetOf E s))) refl
     by false e =
         let none = ltb-false 0 (eventCount (sheetOf E s)) e in
         let few : modulesCounted s ≤ 256 = omega (arith, a .modules, module-count E s) in
-        omega (arith, acc .whole, a .nodes, node-count E s, mul-le-mul-left (E .size) few, short known, none, event-count E s, a .watched, watched-count E s)
+        omega (arith, acc .whole, a .nodes, node-count E s, mul-le-mul-left (E .size) few, few-bytes known, none, event-count E s, a .watched, watched-count E s)
 
 -- Document 01, "The program", gives 8,456 bytes, as many as the counts' ranges allow; the second edition allows 256 more. No accepted
 -- sheet has more than 8,449, and 8,704.

@@ -14,13 +14,13 @@ use Rattle.sheet.specs.Outcome.{orElse, outcomeOf}
 use Rattle.sheet.specs.Refusal.{first}
 use Rattle.format.specs.Accepted.{AcceptedIn}
 use Rattle.format.specs.Made.{madeAnswer, outputAfter, Makes}
-use Rattle.format.proofs.Accepted.{accepted}
+use Rattle.format.proofs.Accepted.{few-bytes, accepted}
 use Rattle.format.proofs.Made.{answers, success}
 use Rattle.lent.proofs.Putting.{none-printed, whole}
 use Rattle.convert.specs.Converted.{recordsPlace, converted}
 use Rattle.convert.specs.Conversion.{kindRows, conversionRows}
 use Rattle.convert.proofs.Answers.{own-passed}
-use Rattle.convert.proofs.Length.{few-bytes, records-within, few-modules, short-sheet, converted-length}
+use Rattle.convert.proofs.Length.{records-within, few-modules, short-sheet, converted-length}
 use Rattle.convert.proofs.convert.Statement.{statement}
 use Rattle.convert.proofs.convert.Tie as tie
 

@@ -2,7 +2,7 @@
 use borrow.Author.Needs.{needs}
 use native.Mathlib.Nat.{mul-le-mul-right}
 use native.Mathlib.Omega.{arith}
-use Rattle.convert.proofs.Length.{few-bytes}
+use Rattle.format.proofs.Accepted.{few-bytes}
 use Rattle.convert.proofs.length_needed.Statement.{statement}
 use Rattle.convert.proofs.length_needed.Tie as tie
 
