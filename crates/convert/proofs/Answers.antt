@@ -16,6 +16,7 @@ use Rattle.sheet.proofs.Each.{each-mem}
 use Rattle.sheet.proofs.Parts.{module-count, module-of}
 use Rattle.sheet.proofs.Rows.{all-nil, _and_, all-each, first-clear, passed-append, refused-append, both-passed, refused-each}
 use Rattle.format.specs.Accepted.{HasKinds}
+use Rattle.format.specs.Made.{sheetMade}
 use Rattle.format.proofs.Made.{refused-before}
 use Rattle.convert.specs.Converted.{converted}
 use Rattle.convert.specs.Conversion.{kindNotInFirst, kindRows, conversionRows, Converts}
@@ -65,4 +66,4 @@ module _ (from to : Edition) (s : List ℕ) where
   pub not-accepted : (output : List ℕ) (a : Answer) → outcomeOf a ≡ checked from s → {n p k : ℕ} → a ≡ Refused n p k → Converts from to s output (outcomeOf a) output
   not-accepted output a told {n} {p} {k} e =
       let refusal = ap outcomeOf e in
-      subst (λ o. Converts from to s output o output) (sym refusal) (refused-before (converted from to s) output (own-refused (sym told ∙ refusal)))
+      subst (λ o. Converts from to s output o output) (sym refusal) (refused-before (sheetMade (converted from to s)) output (own-refused (sym told ∙ refusal)))

@@ -15,7 +15,7 @@ use Rattle.sheet.proofs.Rows.{count-0}
 use Rattle.format.specs.Accepted.{Known, the-first, the-second, HasKinds, AcceptedIn}
 use Rattle.format.specs.Encode.{encode, Bytes}
 use Rattle.format.specs.FirstMet.{FirstMet}
-use Rattle.format.specs.Made.{outputShort}
+use Rattle.format.specs.Made.{outputShort, sheetMade}
 use Rattle.format.proofs.Accepted.{accepted, conversely, strictly, strictly-conversely}
 use Rattle.format.proofs.FirstMet.{first-met, first-refused}
 use Rattle.format.proofs.Made.{refused-before, refused-short, made-whole, made-same, success}
@@ -38,11 +38,11 @@ loses s p = ap (λ l. l ++ part s (p + 6) 2) (append-nil (part s p 5))
 -- the length needed; a success. A refusal leaves the output as it was.
 module _ (from to : Edition) (s : List ℕ) {output : List ℕ} {answer : Outcome} {after : List ℕ} (call : Converts from to s output answer after) where
   pub refused-by-its-own : {n p : ℕ} → checked from s ≡ refused n p 0 → (answer ≡ refused n p 0) × (after ≡ output)
-  refused-by-its-own e = made-same call (refused-before (converted from to s) output (own-refused from to s e))
+  refused-by-its-own e = made-same call (refused-before (sheetMade (converted from to s)) output (own-refused from to s e))
 
   pub refused-22 : checked from s ≡ finished 0 → (m : ℕ) → m < modulesCounted s → to .greatest < moduleAt from s m .kind
       → ((k : ℕ) → k < m → moduleAt from s k .kind ≤ to .greatest) → (answer ≡ refused kindNotInFirst (modulePlace from s m) 0) × (after ≡ output)
-  refused-22 ok m h above before = made-same call (refused-before (converted from to s) output (kind-refused from to s ok m h above before))
+  refused-22 ok m h above before = made-same call (refused-before (sheetMade (converted from to s)) output (kind-refused from to s ok m h above before))
 
   module _ (known : Known from) (known′ : Known to) (ok : checked from s ≡ finished 0) (kinds : HasKinds to (sheetOf from s)) where
     long : length (converted from to s) ≡ needed from to s
@@ -51,12 +51,12 @@ module _ (from to : Edition) (s : List ℕ) {output : List ℕ} {answer : Outcom
     pub refused-23 : length output < needed from to s → (answer ≡ refused outputShort (needed from to s) 0) × (after ≡ output)
     refused-23 h =
         subst (λ n. (answer ≡ refused outputShort n 0) × (after ≡ output)) long
-        (made-same call (refused-short (converted from to s) output (none-refused from to s ok kinds) (omega (arith, h, long))))
+        (made-same call (refused-short (sheetMade (converted from to s)) output (none-refused from to s ok kinds) (omega (arith, h, long))))
 
     pub succeeds : needed from to s ≤ length output → (answer ≡ finished (needed from to s)) × (after ≡ converted from to s ++ drop (needed from to s) output)
     succeeds h =
         subst (λ n. (answer ≡ finished n) × (after ≡ converted from to s ++ drop n output)) long
-        (made-same call (made-whole (converted from to s) output (none-refused from to s ok kinds) (omega (arith, h, long))))
+        (made-same call (made-whole (sheetMade (converted from to s)) output (none-refused from to s ok kinds) (omega (arith, h, long))))
 
 -- Before the output is looked at, a refusal is given exactly where its row is the first that is met.
 pub refused-first : (from to : Edition) (s : List ℕ) (n p : ℕ) → (first (conversionRows from to s) ≡ refused n p 0) ↔ FirstMet (conversionRows from to s) n p
@@ -126,7 +126,7 @@ back-by-calls {from} {to} known known′ s {output} {output′} {answer} {n} {af
     let c = converted from to s in
     let there = subst (λ t. Converts to from t output′ answer after′) (done .4) call′ in
     let kinds : HasKinds from (sheetOf to c) = subst (HasKinds from) (sym (written-in-other known known′ s bytes (done .0) (done .1) .1)) (accepted from known s (done .0) .kinds) in
-    let whole = made-whole (converted to from c) output′ (none-refused to from c (accepted-there known known′ s bytes (done .0) (done .1)) kinds) (omega (arith, h, ap length again)) in
+    let whole = made-whole (sheetMade (converted to from c)) output′ (none-refused to from c (accepted-there known known′ s bytes (done .0) (done .1)) kinds) (omega (arith, h, ap length again)) in
     subst (λ t. (answer ≡ finished (length t)) × (after′ ≡ t ++ drop (length t) output′)) again (made-same there whole)
 
 -- Runs of both sheets over the same buffer leave the same answer and the same bytes.

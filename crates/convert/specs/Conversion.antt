@@ -8,7 +8,7 @@ use Rattle.sheet.specs.Enumerate.{each}
 use Rattle.sheet.specs.Layout.{modulesCounted, modulePlace, moduleAt}
 use Rattle.sheet.specs.Outcome.{Outcome}
 use Rattle.sheet.specs.Refusal.{Row, _at_when_, rows, first}
-use Rattle.format.specs.Made.{Makes}
+use Rattle.format.specs.Made.{Makes, sheetMade}
 use Rattle.convert.specs.Converted.{converted}
 
 -- 22 a kind above 9 for the first edition; the second has every kind of the first
@@ -25,4 +25,4 @@ conversionRows from to s = rows false from s ++ each (modulesCounted s) (kindRow
 
 -- then 23
 abbrev pub Converts : Edition → Edition → List ℕ → List ℕ → Outcome → List ℕ → Type 0
-Converts from to s output answer after = Makes (first (conversionRows from to s)) (converted from to s) output answer after
+Converts from to s output answer after = Makes (first (conversionRows from to s)) (sheetMade (converted from to s)) output answer after

@@ -13,7 +13,7 @@ ghost use Rattle.sheet.specs.Layout.{modulesCounted};
 ghost use Rattle.sheet.specs.Outcome.{finished, outcomeOf};
 ghost use Rattle.sheet.specs.Refusal.{checked, first};
 ghost use Rattle.format.specs.Accepted.{Known};
-ghost use Rattle.format.specs.Made.{writtenAnswer};
+ghost use Rattle.format.specs.Made.{writtenAnswer, sheetMade};
 ghost use Rattle.lent.specs.Lent.{Prints};
 ghost use Rattle.convert.specs.Converted.{part, thirdIn, convertedRecord, recordsPlace, converted};
 ghost use Rattle.convert.specs.Conversion.{kindRows, Converts};
@@ -150,7 +150,7 @@ fn length_needed(from: Edition, to: Edition, sheet: &[u8], n: u16) -> usize
 // The answer to writing a sheet of so many bytes to an output of so many.
 fn length_answer(needed: usize, bytes: usize) -> Answer
     requires { ⌜ needed < 4294967296 ⌝ }
-    ensures { λ r. ⌜ ((sheet : List ℕ) → length sheet ≡ needed → outcomeOf r ≡ writtenAnswer sheet bytes) ⌝ }
+    ensures { λ r. ⌜ ((sheet : List ℕ) → length sheet ≡ needed → outcomeOf r ≡ writtenAnswer (sheetMade sheet) bytes) ⌝ }
 {
     if bytes < needed {
         return Answer::Refused(OUTPUT_SHORT, needed as u32, 0);

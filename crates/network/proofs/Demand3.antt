@@ -19,7 +19,7 @@ use Rattle.network.specs.Ends.{endedListing}
 use Rattle.network.specs.Order.{Listed, ValidOrder}
 use Rattle.network.specs.Renumbering.{Permutation, renumbered, renumberedBytes, renumberedListing}
 use Rattle.network.specs.Buffer.{bufferAfter}
-use Rattle.network.specs.Run.{RunLeaves, horizonOutside, ran, writtenOf}
+use Rattle.network.specs.Run.{RunLeaves, cellsOf, horizonOutside, ran, writtenOf}
 use Rattle.network.specs.Timeline.{Cells, at}
 use Rattle.network.specs.Working.{worked}
 use Rattle.format.proofs.Accepted.{accepted, conversely, strictly, strictly-conversely}
@@ -184,6 +184,23 @@ demand-3 {E} known s horizon bytes runs π order each-once ordersN ordersP valid
 pub valid-order-exists : {E : Edition} → Known E → (s : List ℕ) → checked E s ≡ finished 0 → (order : List ℕ) × ValidOrder (sheetOf E s) order
 valid-order-exists {E} known s c = (workingOrder (sheetOf E s), working-order (sheetOf E s) (accepted E known s c .sheet))
 
+-- N and P worked in their own working orders
+pub own-renumbered : {E : Edition} → (known : Known E) (s : List ℕ) (horizon bytes : ℕ) → RunsToHorizon E s horizon bytes
+    → (π : Permutation (nodeCount (sheetOf E s))) (order : List ℕ) → Listed (moduleCount (sheetOf E s)) order
+    → SameRenumbered E s (renumberedBytes E s π order) (π .to) horizon bytes (cellsOf (sheetOf E s) horizon) (cellsOf (sheetOf E (renumberedBytes E s π order)) horizon)
+own-renumbered {E} known s horizon bytes runs π order each-once =
+    demand-3 known s horizon bytes runs π order each-once (λ t. workingOrder (sheetOf E s)) (λ t. workingOrder (sheetOf E p′))
+    (λ t h. working-order (sheetOf E s) (ok .sheet)) (λ t h. working-order (sheetOf E p′) (ok-P .sheet))
+  where
+    p′ : List ℕ
+    p′ = renumberedBytes E s π order
+
+    ok : AcceptedIn E s
+    ok = accepted E known s (accepted-run E s horizon bytes runs)
+
+    ok-P : AcceptedIn E p′
+    ok-P = accepted-bytes known s ok π order each-once
+
 -- The same of two runs by what each leaves, as `run` promises it: P's answer is N's, and P's buffer has N's records renumbered and sorted again.
 pub renumbered-run : {E : Edition} → Known E → (s : List ℕ) (horizon count : ℕ)
     → (π : Permutation (nodeCount (sheetOf E s))) (order : List ℕ) → Listed (moduleCount (sheetOf E s)) order
@@ -201,16 +218,5 @@ renumbered-run {E} known s horizon count π order each-once bufferN bufferP afte
     bytes : ℕ
     bytes = length bufferN
 
-    runs : RunsToHorizon E s horizon bytes
-    runs = record { count = count; answer = sym (N .answered) ∙ done }
-
-    ok : AcceptedIn E s
-    ok = accepted E known s (accepted-run E s horizon bytes runs)
-
-    ok-P : AcceptedIn E p′
-    ok-P = accepted-bytes known s ok π order each-once
-
-    same : SameRenumbered E s p′ (π .to) horizon bytes (workedFrom E s horizon (λ t. workingOrder (sheetOf E s))) (workedFrom E p′ horizon (λ t. workingOrder (sheetOf E p′)))
-    same =
-        demand-3 known s horizon bytes runs π order each-once (λ t. workingOrder (sheetOf E s)) (λ t. workingOrder (sheetOf E p′))
-        (λ t h. working-order (sheetOf E s) (ok .sheet)) (λ t h. working-order (sheetOf E p′) (ok-P .sheet))
+    same : SameRenumbered E s p′ (π .to) horizon bytes (cellsOf (sheetOf E s) horizon) (cellsOf (sheetOf E p′) horizon)
+    same = own-renumbered known s horizon bytes (record { count = count; answer = sym (N .answered) ∙ done }) π order each-once

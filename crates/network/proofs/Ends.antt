@@ -54,7 +54,7 @@ decided false h = absurd (h tt)
 unchanged : (c : Cells) (v u : ℕ) → (T (changes c v (suc u)) → ⊥) → c (suc u) v ≡ c u v
 unchanged c v u h = eqb→eq (c (suc u) v) (c u v) (decided (eqb (c (suc u) v) (c u v)) h)
 
-differs : (c : Cells) (v u : ℕ) → T (changes c v (suc u)) → c (suc u) v ≡ c u v → ⊥
+pub differs : (c : Cells) (v u : ℕ) → T (changes c v (suc u)) → c (suc u) v ≡ c u v → ⊥
 differs c v u d e = T-not (eqb (c (suc u) v) (c u v)) d (rw e (eqb-refl (c u v)))
 
 steady : (c : Cells) (v t k : ℕ) → ((u : ℕ) → t < u → u ≤ t + k → T (changes c v u) → ⊥) → c (t + k) v ≡ c t v

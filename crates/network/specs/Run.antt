@@ -1,15 +1,16 @@
 -- Document 01, "Where each refusal is met": what a run answers and what the buffer then holds, for any bytes, horizon and buffer.
-use mathlib.Core.Bool.{Bool, _||_}
+use mathlib.Core.Bool.{Bool}
 use mathlib.Core.List.{List, [], _∷_}
 use mathlib.Core.Path.{_≡_}
 use Prim.Native.Nat.{ℕ, suc}
-use lib.Dec.{eqb, ltb}
+use lib.Dec.{ltb}
 use lib.ListN.{length}
 use Rattle.level.specs.Choice.{if_then_else_}
 use Rattle.sheet.specs.declared.Edition.{Edition}
 use Rattle.sheet.specs.Enumerate.{each}
 use Rattle.sheet.specs.Limits.{greatestHorizon, pendingLimit}
 use Rattle.sheet.specs.Outcome.{Outcome, finished, refused}
+use Rattle.sheet.specs.Range.{zeroOrAbove}
 use Rattle.sheet.specs.Sheet.{Sheet}
 use Rattle.sheet.specs.WorkingOrder.{workingOrder}
 use Rattle.sheet.specs.Layout.{sheetOf}
@@ -67,7 +68,7 @@ afterCheck S horizon bytes (finished n) = ranSheet S horizon bytes
 afterCheck S horizon bytes (refused n p k) = wrote (refused n p k) []
 
 abbrev pub horizonOutside : ℕ → Bool
-horizonOutside horizon = eqb horizon 0 || ltb greatestHorizon horizon
+horizonOutside horizon = zeroOrAbove greatestHorizon horizon
 
 -- 1 horizon 0 or above 1,000,000; then the sheet's refusals; then the ticks
 unfoldable pub ran : Edition → List ℕ → ℕ → ℕ → Written

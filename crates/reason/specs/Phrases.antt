@@ -6,15 +6,16 @@ use Prim.Native.String.{String}
 use lib.Dec.{leb, ltb}
 use lib.ListN.{length, getD}
 use Rattle.reason.specs.declared.Sort.{Sort}
-use Rattle.reason.specs.declared.Sort.the-variants.{Byte, Node, Tick, Length, Bare}
+use Rattle.reason.specs.declared.Sort.the-variants.{Byte, Node, Tick, Length, Pulses, Bare}
 
 -- The sort of a place (document 02's term) is what it counts, as its row names it: a byte of the sheet, a node, a tick, the length
--- that is needed; a bare 0 counts nothing. How the sort stands before the place:
+-- that is needed, the pulses to report; a bare 0 counts nothing. How the sort stands before the place:
 abbrev pub before : Sort → String
 before Byte = ", at the sheet's byte "
 before Node = ", at node "
 before Tick = ", at tick "
 before Length = ", length needed "
+before Pulses = ", pulses to report "
 before Bare = ", place "
 
 -- what is wrong, and the sort of the place
@@ -26,7 +27,7 @@ infix 20 _by_
 abbrev pub _by_ : String → Sort → Phrase
 wrong by sort = record { wrong = wrong; sort = sort }
 
--- refusals 1 to 23, in order
+-- refusals 1 to 25, in order
 abbrev pub phrases : List Phrase
 phrases =
     ("the horizon is not from 1 to 1,000,000 ticks" by Bare)
@@ -52,6 +53,8 @@ phrases =
     ∷ ("the text buffer is shorter than the sentence" by Length)
     ∷ ("a module has a kind above 9, which the first edition of the sheet lacks" by Byte)
     ∷ ("the output buffer is shorter than the sheet to be written" by Length)
+    ∷ ("the pulse width is not from 1 to 10,000 ticks" by Bare)
+    ∷ ("the report buffer has no room for all pulses" by Pulses)
     ∷ []
 
 -- how a number that no row has is said, before the number itself

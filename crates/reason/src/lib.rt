@@ -14,6 +14,7 @@ pub enum Sort {
     Node,
     Tick,
     Length,
+    Pulses,
     Bare,
 }
 
@@ -26,6 +27,7 @@ fn put_sort(text: &mut [u8], at: usize, sort: Sort) -> usize
         Sort::Node => put_all(text, at, b", at node "),
         Sort::Tick => put_all(text, at, b", at tick "),
         Sort::Length => put_all(text, at, b", length needed "),
+        Sort::Pulses => put_all(text, at, b", pulses to report "),
         Sort::Bare => put_all(text, at, b", place "),
     }
 }
@@ -47,7 +49,7 @@ fn put_unlisted(text: &mut [u8], at: usize, number: u32) -> usize
     put_sort(text, end, Sort::Bare)
 }
 
-// Puts what a number from 22 on says, up to its place: of a sheet that is made from another; past the table, that it is not listed.
+// Puts what a number from 22 on says, up to its place: of a sheet or a report that is made; past the table, that it is not listed.
 fn put_made_reason(text: &mut [u8], at: usize, number: u32) -> usize
     requires { ⌜ 22 ≤ number ⌝ }
     ensures { λ r. ⌜ Prints (reason number) (now (text .entry)) at (now (text .exit)) r ⌝ }
@@ -64,6 +66,18 @@ fn put_made_reason(text: &mut [u8], at: usize, number: u32) -> usize
             at,
             b"the output buffer is shorter than the sheet to be written",
             Sort::Length,
+        ),
+        24 => put_phrase(
+            text,
+            at,
+            b"the pulse width is not from 1 to 10,000 ticks",
+            Sort::Bare,
+        ),
+        25 => put_phrase(
+            text,
+            at,
+            b"the report buffer has no room for all pulses",
+            Sort::Pulses,
         ),
         _ => put_unlisted(text, at, number),
     }

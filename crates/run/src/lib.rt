@@ -4,7 +4,6 @@ mod ticks;
 
 use sheet::Answer;
 use sheet::Edition;
-use sheet::GREATEST_HORIZON;
 use sheet::MODULES;
 ghost use Rattle.sheet.specs.Outcome.{outcomeOf};
 ghost use Rattle.format.specs.Accepted.{Known};
@@ -16,12 +15,10 @@ pub fn run(edition: Edition, bytes: &[u8], horizon: u32, listing: &mut [u8]) -> 
     requires { ⌜ Known edition ⌝ }
     ensures { λ r. ⌜ RunLeaves edition (now (bytes .entry)) horizon (now (listing .entry)) (outcomeOf r) (now (listing .exit)) ⌝ }
 {
-    if horizon == 0 {
-        return Answer::Refused(1, 0, 0);
-    }
-    if GREATEST_HORIZON < horizon {
-        return Answer::Refused(1, 0, 0);
-    }
+    let range = sheet::horizon_answer(horizon);
+    let Answer::Ran(_) = range else {
+        return range;
+    };
     let read = reader::read_sheet(false, edition, bytes);
     let a = read.answer;
     let Answer::Ran(_) = a else {

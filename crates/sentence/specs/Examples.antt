@@ -21,6 +21,8 @@ examples =
     ∷ (refused 21 27 0 reads "refused: the text buffer is shorter than the sentence, length needed 27; records written: 0")
     ∷ (refused 22 16 0 reads "refused: a module has a kind above 9, which the first edition of the sheet lacks, at the sheet's byte 16; records written: 0")
     ∷ (refused 23 32 0 reads "refused: the output buffer is shorter than the sheet to be written, length needed 32; records written: 0")
+    ∷ (refused 24 0 0 reads "refused: the pulse width is not from 1 to 10,000 ticks, place 0; records written: 0")
+    ∷ (refused 25 2 6 reads "refused: the report buffer has no room for all pulses, pulses to report 2; records written: 6")
     ∷ (refused 0 7 6 reads "refused: the reason is not listed, number 0, place 7; records written: 6")
     ∷ (refused 77 4294967295 0 reads "refused: the reason is not listed, number 77, place 4294967295; records written: 0")
     ∷ []

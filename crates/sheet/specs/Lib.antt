@@ -9,6 +9,7 @@ pub mod WorkingOrder
 pub mod Bytes
 pub mod Layout
 pub mod Outcome
+pub mod Range
 pub mod Contents
 pub mod Reading
 pub mod Refusal

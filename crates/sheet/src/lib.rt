@@ -5,6 +5,7 @@ ghost use Prim.Native.Nat.{_+_, _<_, _≤_};
 ghost use Rattle.sheet.specs.Bytes.{byteAt, wordAt, longAt};
 ghost use Rattle.sheet.specs.Layout.{firstEdition, secondEdition, hasThird, thirdAt, delayPlace, moduleRecord, eventRecord};
 ghost use Rattle.sheet.specs.Outcome.{orElse, outcomeOf};
+ghost use Rattle.sheet.specs.Range.{rangeAnswer, horizonAnswer};
 ghost use Rattle.sheet.specs.Reading.{countRead, nodeRead, moduleRead, eventRead};
 
 // The sizes of a count and of an event's record; a node's and a watched node's is one byte.
@@ -52,6 +53,9 @@ pub const GREATEST_HORIZON: u32 = 1000000;
 
 pub const PENDING_LIMIT: usize = 4096;
 
+// The refusal of a horizon outside its range.
+const HORIZON_OUTSIDE: u32 = 1;
+
 // The size of a module's record in document 01's edition, and in document 02's, which has a third input.
 const FIRST_SIZE: u8 = 7;
 
@@ -98,6 +102,26 @@ pub fn or_else(a: Answer, b: Answer) -> Answer
         Answer::Ran(_) => b,
         Answer::Refused(number, place, count) => Answer::Refused(number, place, count),
     }
+}
+
+// Refuses a number that is 0 or above the greatest.
+pub fn range_answer(number: u32, greatest: u32, n: u32) -> Answer
+    ensures { λ r. ⌜ outcomeOf r ≡ rangeAnswer number greatest n ⌝ }
+{
+    if n == 0 {
+        return Answer::Refused(number, 0, 0);
+    }
+    if greatest < n {
+        return Answer::Refused(number, 0, 0);
+    }
+    Answer::Ran(0)
+}
+
+// Refuses a horizon outside its range.
+pub fn horizon_answer(horizon: u32) -> Answer
+    ensures { λ r. ⌜ outcomeOf r ≡ horizonAnswer horizon ⌝ }
+{
+    range_answer(HORIZON_OUTSIDE, GREATEST_HORIZON, horizon)
 }
 
 // A module's record.

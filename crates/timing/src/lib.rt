@@ -10,6 +10,7 @@ ghost use Rattle.sheet.specs.Refusal.{checkedBy, checked, checkedStrictly};
 ghost use Rattle.format.specs.Accepted.{Known};
 ghost use Rattle.network.specs.Run.{RunLeaves};
 ghost use Rattle.convert.specs.Conversion.{Converts};
+ghost use Rattle.pulses.specs.Reporting.{Reports};
 
 // Checks a sheet of an edition, strictly or not: the refusals of its bytes, and then its zero-delay loops.
 fn check_in(strict: bool, edition: Edition, bytes: &[u8]) -> Answer
@@ -100,5 +101,72 @@ pub fn convert_2_to_1(sheet: &[u8], output: &mut [u8]) -> Answer
         sheet::first_edition(),
         sheet,
         output,
+    )
+}
+
+// Reports the pulses of a sheet of an edition that are shorter than a width: the refusals of horizon and width, the run, and then the report.
+fn pulses_in(
+    edition: Edition,
+    sheet: &[u8],
+    horizon: u32,
+    width: u32,
+    listing: &mut [u8],
+    report: &mut [u8],
+) -> Answer
+    requires { ⌜ Known edition ⌝ }
+    ensures { λ r. ⌜ Reports edition (now (sheet .entry)) horizon width (now (listing .entry)) (now (report .entry))
+        (outcomeOf r) (now (listing .exit)) (now (report .exit)) ⌝ }
+{
+    let asked = pulses::range_refusal(horizon, width);
+    let Answer::Ran(_) = asked else {
+        return asked;
+    };
+    let ran = run::run(edition, sheet, horizon, listing);
+    let Answer::Ran(records) = ran else {
+        return ran;
+    };
+    pulses::report(&*listing, records, horizon, width, report)
+}
+
+// Runs a sheet to a horizon and reports each pulse of a watched node that is shorter than a width: refusals 1, 24, 2 to 20 except 15, and 25,
+// or a finished call with the count of pulses. The listing is left as the run leaves it, and untouched by 24. The pulses stand first in the
+// report; bytes past them are as they were. A refusal writes nothing to the report.
+pub fn pulses(
+    sheet: &[u8],
+    horizon: u32,
+    width: u32,
+    listing: &mut [u8],
+    report: &mut [u8],
+) -> Answer
+    ensures { λ r. ⌜ Reports firstEdition (now (sheet .entry)) horizon width (now (listing .entry)) (now (report .entry))
+        (outcomeOf r) (now (listing .exit)) (now (report .exit)) ⌝ }
+{
+    pulses_in(
+        sheet::first_edition(),
+        sheet,
+        horizon,
+        width,
+        listing,
+        report,
+    )
+}
+
+pub fn pulses_2(
+    sheet: &[u8],
+    horizon: u32,
+    width: u32,
+    listing: &mut [u8],
+    report: &mut [u8],
+) -> Answer
+    ensures { λ r. ⌜ Reports secondEdition (now (sheet .entry)) horizon width (now (listing .entry)) (now (report .entry))
+        (outcomeOf r) (now (listing .exit)) (now (report .exit)) ⌝ }
+{
+    pulses_in(
+        sheet::second_edition(),
+        sheet,
+        horizon,
+        width,
+        listing,
+        report,
     )
 }

@@ -7,6 +7,7 @@ ghost use Rattle.sheet.specs.Outcome.{Outcome, outcomeOf, numbers, fromNumbers}
 ghost use Rattle.sheet.specs.Refusal.{checked, checkedStrictly};
 ghost use Rattle.network.specs.Run.{RunLeaves};
 ghost use Rattle.convert.specs.Conversion.{Converts};
+ghost use Rattle.pulses.specs.Reporting.{Reports};
 ghost use Rattle.sentence.specs.Describing.{Describes};
 
 // An answer's three numbers: number (0 for a finished call), place, count.
@@ -94,6 +95,39 @@ pub extern "C" fn timing_convert_2_to_1(sheet: &[u8], output: &mut [u8], answer:
         × Converts secondEdition firstEdition (now (sheet .entry)) (now (output .entry)) o (now (output .exit))) ⌝ }
 {
     *answer = numbers_of(timing::convert_2_to_1(sheet, output));
+}
+
+// The three numbers are those of the answer to the report.
+#[no_mangle]
+pub extern "C" fn timing_pulses(
+    sheet: &[u8],
+    horizon: u32,
+    width: u32,
+    listing: &mut [u8],
+    report: &mut [u8],
+    answer: &mut [u32; 3],
+)
+    ensures { λ _. ⌜ ((o : Outcome) × (now (answer .exit) ≡ numbers o)
+        × Reports firstEdition (now (sheet .entry)) horizon width (now (listing .entry)) (now (report .entry))
+        o (now (listing .exit)) (now (report .exit))) ⌝ }
+{
+    *answer = numbers_of(timing::pulses(sheet, horizon, width, listing, report));
+}
+
+#[no_mangle]
+pub extern "C" fn timing_pulses_2(
+    sheet: &[u8],
+    horizon: u32,
+    width: u32,
+    listing: &mut [u8],
+    report: &mut [u8],
+    answer: &mut [u32; 3],
+)
+    ensures { λ _. ⌜ ((o : Outcome) × (now (answer .exit) ≡ numbers o)
+        × Reports secondEdition (now (sheet .entry)) horizon width (now (listing .entry)) (now (report .entry))
+        o (now (listing .exit)) (now (report .exit))) ⌝ }
+{
+    *answer = numbers_of(timing::pulses_2(sheet, horizon, width, listing, report));
 }
 
 // Describes the answer that three numbers stand for.

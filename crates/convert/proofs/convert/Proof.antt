@@ -13,7 +13,7 @@ use Rattle.sheet.specs.Layout.{modulesCounted}
 use Rattle.sheet.specs.Outcome.{orElse, outcomeOf}
 use Rattle.sheet.specs.Refusal.{first}
 use Rattle.format.specs.Accepted.{AcceptedIn}
-use Rattle.format.specs.Made.{madeAnswer, outputAfter, Makes}
+use Rattle.format.specs.Made.{madeAnswer, outputAfter, Makes, sheetMade}
 use Rattle.format.proofs.Accepted.{few-bytes, accepted}
 use Rattle.format.proofs.Made.{answers, success}
 use Rattle.lent.proofs.Putting.{none-printed, whole}
@@ -55,7 +55,7 @@ length-answer-requires c κs =
 
 -- the answer that is worked out is the definition's
 answered : (c : tie.After-or-else) → outcomeOf (c .or-else .result)
-    ≡ madeAnswer (first (conversionRows (c .before .before .before .before .before .before .before .before .args .from) (c .before .before .before .before .before .before .before .before .args .to) (c .before .before .before .before .before .before .before .before .args .sheet .now))) (converted (c .before .before .before .before .before .before .before .before .args .from) (c .before .before .before .before .before .before .before .before .args .to) (c .before .before .before .before .before .before .before .before .args .sheet .now)) (length (c .before .before .before .before .before .before .before .before .args .output .now))
+    ≡ madeAnswer (first (conversionRows (c .before .before .before .before .before .before .before .before .args .from) (c .before .before .before .before .before .before .before .before .args .to) (c .before .before .before .before .before .before .before .before .args .sheet .now))) (sheetMade (converted (c .before .before .before .before .before .before .before .before .args .from) (c .before .before .before .before .before .before .before .before .args .to) (c .before .before .before .before .before .before .before .before .args .sheet .now))) (length (c .before .before .before .before .before .before .before .before .args .output .now))
 answered c = c .or-else .ensures ∙ ap₂ orElse kinds (c .before .length-answer .ensures (converted from to s) long)
   where
     from : Edition
@@ -79,7 +79,7 @@ returns-2 c =
     let a = c .before .before .before .before .before .before .before .before .before .before .before .before .before .before .args in
     let C = converted (a .from) (a .to) (a .sheet .now) in
     let told = ap outcomeOf (c .before .before .before .before .enum-told .given .1) in
-    let made = answers {before = first (conversionRows (a .from) (a .to) (a .sheet .now))} C (a .output .now) (sym (answered (c .before .before .before .before .before .before)) ∙ told) in
+    let made = answers {before = first (conversionRows (a .from) (a .to) (a .sheet .now))} (sheetMade C) (a .output .now) (sym (answered (c .before .before .before .before .before .before)) ∙ told) in
     let put = whole (c .before .before .put-sheet .ensures _ [] (none-printed _)) (success made .fits) in
     record { answered = answered (c .before .before .before .before .before .before); left = put .1 ∙ made .left }
 
@@ -89,8 +89,8 @@ returns c =
     let a = c .before .before .before .before .before .before .before .before .before .before .args in
     let C = converted (a .from) (a .to) (a .sheet .now) in
     let before = first (conversionRows (a .from) (a .to) (a .sheet .now)) in
-    subst (λ o. Makes before C (a .output .now) (outcomeOf (c .before .before .or-else .result)) (outputAfter o C (a .output .now))) (ap outcomeOf (c .enum-told2 .given .1))
-    (answers {before = before} C (a .output .now) (sym (answered (c .before .before))))
+    subst (λ o. Makes before (sheetMade C) (a .output .now) (outcomeOf (c .before .before .or-else .result)) (outputAfter o C (a .output .now))) (ap outcomeOf (c .enum-told2 .given .1))
+    (answers {before = before} (sheetMade C) (a .output .now) (sym (answered (c .before .before))))
 
 put-sheet-requires : tie.Need-put-sheet-requires
 put-sheet-requires c κs = (c .before .before .before .before .before .before .before .before .before .before .before .pre .0, place-is (c .before .before .before .before .before .before .before), count-is (c .before .before .before .before .before .before .before), within (c .before .before .before .before .before .before .before), short (c .before .before .before .before .before .before .before))

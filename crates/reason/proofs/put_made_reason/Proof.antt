@@ -14,7 +14,11 @@ put-made-reason-spec =
     (tie.spec
     (λ c. search needs) (λ c κs. search needs)
     (λ c. search needs) (λ c κs. search needs)
+    (λ c. search needs) (λ c κs. search needs)
+    (λ c. search needs) (λ c κs. search needs)
     (λ c κs. search needs)
     (λ c. search needs) (λ c. rw (c .before .before .before .before .before .match .keys1) (c .before .before .put-phrase .ensures))
     (λ c. search needs) (λ c. rw (c .before .before .before .before .before .match .keys2) (c .before .before .put-phrase2 .ensures))
+    (λ c. search needs) (λ c. rw (c .before .before .before .before .before .match .keys3) (c .before .before .put-phrase3 .ensures))
+    (λ c. search needs) (λ c. rw (c .before .before .before .before .before .match .keys4) (c .before .before .put-phrase4 .ensures))
     (λ c. search needs) (λ c. rw (above-listed (c .before .before .before .before .before .before .args .number) (omega arith)) (c .before .before .put-unlisted .ensures)))
