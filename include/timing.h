@@ -1,6 +1,6 @@
 /*
- * Timing networks: checks a sheet, runs it to a horizon, converts it to the other edition, and says in
- * words what a call answers.
+ * Timing networks: checks a sheet, runs it to a horizon, reports pulses that are too short for a coil,
+ * converts the sheet to the other edition, and says in words what a call answers.
  *
  * Link libtiming_c.a, which is compiled for x86-64 Linux. It asks for memcpy and memset alone.
  * What a sheet is, and every word used here, is in document 01; how to begin, in README.md.
@@ -17,12 +17,13 @@ extern "C" {
 
 /*
  * answer[0], the number. A call answers TIMING_FINISHED, or the first refusal that the sheet, read
- * front to back, or the run or the conversion meets. A strict check gives 0 and 2 to 18, a check these but
- * 15, a run 0 to 20 but 15, a conversion what a check gives and 23, to the first edition 22 as well,
- * describing 0 and 21.
+ * front to back, or the run, the report or the conversion meets. A strict check gives 0 and 2 to 18, a check
+ * these but 15, a run 0 to 20 but 15, a report of pulses what a run gives, 24 and 25, a conversion what a
+ * check gives and 23, to the first edition 22 as well, describing 0 and 21.
  */
 enum timing_number {
-    TIMING_FINISHED = 0, /* the sheet is accepted, the run has reached its horizon, or text or sheet is written */
+    /* the sheet is accepted, the run has reached its horizon, or report, sheet or text is written */
+    TIMING_FINISHED = 0,
 
     /* Before reading; the place is 0. */
     TIMING_HORIZON_OUTSIDE = 1, /* horizon 0 or above 1,000,000 */
@@ -67,7 +68,13 @@ enum timing_number {
     TIMING_KIND_NOT_IN_FIRST = 22, /* a module: kind above 9, which the first edition lacks */
 
     /* While converting; the place is the length needed. */
-    TIMING_OUTPUT_SHORT = 23 /* the output's buffer is shorter than the sheet to be written */
+    TIMING_OUTPUT_SHORT = 23, /* the output's buffer is shorter than the sheet to be written */
+
+    /* Reporting pulses, before reading and next after the horizon; the place is 0. */
+    TIMING_WIDTH_OUTSIDE = 24, /* width 0 or above 10,000 */
+
+    /* Reporting pulses, after the run; the place is the count of pulses to report. */
+    TIMING_REPORT_SHORT = 25 /* the report's buffer cannot take all pulses: lend more */
 };
 
 /* The values of a cell, as they stand in a listing. */
@@ -84,6 +91,12 @@ enum timing_value {
  */
 #define TIMING_RECORD_SIZE 10
 
+/*
+ * A pulse of a report: start tick (4 bytes), node (1 byte), length in ticks (4 bytes), numbers with the low
+ * byte first.
+ */
+#define TIMING_PULSE_SIZE 9
+
 /* Limits. The counts of a sheet's nodes, modules, events and watched nodes: */
 #define TIMING_LEAST_NODES 1
 #define TIMING_MOST_NODES 256
@@ -93,10 +106,11 @@ enum timing_value {
 /* the byte of a node that is an input, and the greatest value of a cell: */
 #define TIMING_INPUT_BYTE 4
 #define TIMING_LAST_VALUE 3
-/* a module's delay, an event's tick, a run's horizon: */
+/* a module's delay, an event's tick, a run's horizon, the width that pulses are shorter than: */
 #define TIMING_LONGEST_DELAY 10000
 #define TIMING_LAST_TICK 999999
 #define TIMING_GREATEST_HORIZON 1000000
+#define TIMING_GREATEST_WIDTH 10000
 /* the changes that may be pending after a tick: */
 #define TIMING_PENDING_LIMIT 4096
 /* bytes that no accepted sheet of the first edition passes, and of the second: */
@@ -109,18 +123,19 @@ enum timing_value {
  * All calls:
  *
  * answer[0] is the number, answer[1] the place (0 where the number is 0) and answer[2] the count: of
- * records written, of the bytes of a sentence, or of the bytes of a converted sheet. All three are written
- * by every call.
+ * records written, of the pulses of a report, of the bytes of a converted sheet, or of the bytes of a
+ * sentence. All three are written by every call.
  *
- * Nothing is asked of the sheet's bytes, of numbers and of lengths; listing, output, text and answer may
- * hold anything before. Of the memory:
+ * Nothing is asked of the sheet's bytes, of numbers and of lengths; listing, report, output, text and answer
+ * may hold anything before. Of the memory:
  * - No pointer is null, also where its length is 0: then nothing is read or written through it, and
  *   any other address will do. answer is aligned for its type.
- * - sheet has as many bytes as length says, listing, output and text as many as bytes says, answer three
- *   words. Before the call returns nobody else writes to the sheet, or reads or writes the other areas.
- * - The areas of a call do not overlap: no sheet is converted in its place. The calls are proved, and
- *   compiled, for areas of their own: what is written over the sheet or the answer would change what they
- *   take for unchanged.
+ * - sheet has as many bytes as length says, listing, output and text as many as bytes says, report as many
+ *   as report_bytes says, answer three words. Before the call returns nobody else writes to the sheet, or
+ *   reads or writes the other areas.
+ * - The areas of a call do not overlap: no sheet is converted in its place, and no report stands in its
+ *   listing. The calls are proved, and compiled, for areas of their own: what is written over another area
+ *   would change what they take for unchanged.
  *
  * None keeps anything between calls or touches other memory than the lent areas and the stack, so
  * all may be called from several threads at once. Every call ends.
@@ -128,9 +143,10 @@ enum timing_value {
 
 /*
  * The bytes of stack that a call uses below its caller's frame, whatever it is given: measured (214.7,
- * 231.8 and 3.1 KiB) and rounded up, the first two to 16 KiB. A thread needs some for itself besides.
+ * 232.3 and 3.1 KiB) and rounded up, the first two to 16 KiB. A thread needs some for itself besides.
  * A strict check uses no more than a check is said to, and the second edition's calls use no more than the
- * first's are said to. A conversion uses no more than a check is said to.
+ * first's are said to. A conversion uses no more than a check is said to, and a report of pulses no more
+ * than a run is said to.
  */
 #define TIMING_CHECK_STACK 229376
 #define TIMING_RUN_STACK 245760
@@ -140,8 +156,8 @@ enum timing_value {
  * A sheet has one of two editions. In the first a module's record has 7 bytes and its kind is 0 to 9. In the
  * second it has 8 bytes, the third input standing before the delay, and its kind is 0 to 15: 10 to 14 are
  * AND, OR, XOR, NAND and NOR of three inputs, 15 is a multiplexer (document 02, W-205). A check, a strict
- * check and a run have a call of the same name with _2 at its end, which takes a sheet of the second edition;
- * what is said of the first edition's holds of it.
+ * check, a run and a report of pulses have a call of the same name with _2 at its end, which takes a sheet of
+ * the second edition; what is said of the first edition's holds of it.
  */
 
 /* Checks the sheet without running it. The count is always 0. A run refuses the same sheets. */
@@ -170,6 +186,26 @@ void timing_run(const uint8_t *sheet, size_t length, uint32_t horizon, uint8_t *
                 uint32_t answer[3]);
 void timing_run_2(const uint8_t *sheet, size_t length, uint32_t horizon, uint8_t *listing, size_t bytes,
                   uint32_t answer[3]);
+
+/*
+ * Runs the sheet to the horizon over the listing, as timing_run does, and writes each pulse of a watched node
+ * that is shorter than the width to the front of the report, rising by start tick and then by node. A pulse is
+ * a value, be it TIMING_UNKNOWN or TIMING_NONE, that the node changes to after tick 0 and changes from below
+ * the horizon, and its length is the ticks in between: it is a record of the listing whose tick is not 0 and
+ * whose end is below the horizon. One that is just as long as the width is not reported, so the width 1
+ * reports none. A report takes report_bytes / TIMING_PULSE_SIZE pulses, rounded down.
+ *
+ * Finished: the report has every such pulse and no other, the count is theirs, and the bytes past the last are
+ * as they were. The listing holds what a finished run leaves; the count of its records is not answered.
+ * Refused: the report is as it was. In this order: TIMING_HORIZON_OUTSIDE; TIMING_WIDTH_OUTSIDE, with a count
+ * of 0, the listing being as it was; what the run refuses, with its place and count, the listing holding what
+ * that run leaves; TIMING_REPORT_SHORT, where the place is the count of pulses to report, the count is that of
+ * the records, and the listing holds all of them.
+ */
+void timing_pulses(const uint8_t *sheet, size_t length, uint32_t horizon, uint32_t width, uint8_t *listing,
+                   size_t bytes, uint8_t *report, size_t report_bytes, uint32_t answer[3]);
+void timing_pulses_2(const uint8_t *sheet, size_t length, uint32_t horizon, uint32_t width, uint8_t *listing,
+                     size_t bytes, uint8_t *report, size_t report_bytes, uint32_t answer[3]);
 
 /*
  * Converts the sheet to the other edition and writes it to the front of the output. timing_convert_1_to_2

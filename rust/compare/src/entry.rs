@@ -15,6 +15,19 @@ type Run = unsafe extern "C" fn(
     answer: *mut [u32; 3],
 );
 
+/// The entry point of a report of pulses.
+type Pulses = unsafe extern "C" fn(
+    sheet: *const u8,
+    sheet_len: usize,
+    horizon: u32,
+    width: u32,
+    listing: *mut u8,
+    listing_len: usize,
+    report: *mut u8,
+    report_len: usize,
+    answer: *mut [u32; 3],
+);
+
 /// A conversion's entry point.
 type Convert = unsafe extern "C" fn(
     sheet: *const u8,
@@ -46,6 +59,29 @@ mod c {
             horizon: u32,
             listing: *mut u8,
             listing_len: usize,
+            answer: *mut [u32; 3],
+        );
+
+        pub fn timing_pulses(
+            sheet: *const u8,
+            sheet_len: usize,
+            horizon: u32,
+            width: u32,
+            listing: *mut u8,
+            listing_len: usize,
+            report: *mut u8,
+            report_len: usize,
+            answer: *mut [u32; 3],
+        );
+        pub fn timing_pulses_2(
+            sheet: *const u8,
+            sheet_len: usize,
+            horizon: u32,
+            width: u32,
+            listing: *mut u8,
+            listing_len: usize,
+            report: *mut u8,
+            report_len: usize,
             answer: *mut [u32; 3],
         );
 
@@ -119,6 +155,35 @@ pub fn run(edition: Edition, sheet: &[u8], horizon: u32, listing: &mut [u8]) -> 
             horizon,
             listing.as_mut_ptr(),
             listing.len(),
+            &mut answer,
+        );
+    }
+    answer
+}
+
+/// Runs the sheet to the horizon over `listing` and writes the pulses that are shorter than the width to the
+/// front of `report`. The answer is number (0 for a finished report), place and count, that of the pulses.
+pub fn pulses(
+    edition: Edition,
+    sheet: &[u8],
+    horizon: u32,
+    width: u32,
+    listing: &mut [u8],
+    report: &mut [u8],
+) -> [u32; 3] {
+    let call = by_edition::<Pulses>(edition, c::timing_pulses, c::timing_pulses_2);
+    let mut answer = [UNWRITTEN; 3];
+    // SAFETY: as above; the listing's and the report's bytes are written, too, and lent for the whole call.
+    unsafe {
+        call(
+            sheet.as_ptr(),
+            sheet.len(),
+            horizon,
+            width,
+            listing.as_mut_ptr(),
+            listing.len(),
+            report.as_mut_ptr(),
+            report.len(),
             &mut answer,
         );
     }

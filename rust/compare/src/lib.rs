@@ -8,7 +8,7 @@ mod place;
 mod stream;
 
 pub use converted::converted;
-pub use entry::{check, check_strict, convert, describe, run};
+pub use entry::{check, check_strict, convert, describe, pulses, run};
 pub use hex::hex;
 pub use lent::Lent;
 pub use place::{program, repository, table_generator};

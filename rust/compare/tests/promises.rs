@@ -65,9 +65,9 @@ fn a_missing_name_is_seen() {
 }
 
 /// The crates whose definitions must be believed.
-const BELIEVED: [&str; 10] = [
-    "level", "sheet", "format", "network", "lent", "reason", "sentence", "convert", "text",
-    "program",
+const BELIEVED: [&str; 11] = [
+    "level", "sheet", "format", "network", "lent", "reason", "sentence", "convert", "pulses",
+    "text", "program",
 ];
 
 /// How many lines of a crate's definitions are not empty.

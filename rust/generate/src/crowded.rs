@@ -1,6 +1,6 @@
 //! Runs with about 4,096 changes pending where they are busiest.
 
-use plain::{renumbered, rule, Module, Sheet, HIGH, INPUT, LOW, UNKNOWN};
+use plain::{rule, Module, Sheet, HIGH, INPUT, LOW, UNKNOWN};
 
 use crate::limits::{MOST_NODES, MOST_PENDING};
 use crate::sheets::*;
@@ -50,7 +50,7 @@ impl Generator {
         for delay in delays {
             self.add_passing(&mut sheet, 0, delay, settled);
         }
-        self.numbered_anyhow(sheet, 2 * longest + 1)
+        self.with_horizon(sheet, 2 * longest + 1)
     }
 
     /// Modules that read an input, which changes at every tick until all its changes are pending
@@ -68,7 +68,7 @@ impl Generator {
         for _ in 0..self.random.between(0, 5) {
             self.add_constant(&mut sheet, delay);
         }
-        self.numbered_anyhow(sheet, changes + delay + 1)
+        self.with_horizon(sheet, changes + delay + 1)
     }
 
     /// Modules in a row after an oscillator, which fill up one after the other.
@@ -82,7 +82,7 @@ impl Generator {
             let before = byte(sheet.nodes.len() - 1);
             self.add_passing(&mut sheet, before, delay, true);
         }
-        self.numbered_anyhow(sheet, whole + longest + 1)
+        self.with_horizon(sheet, whole + longest + 1)
     }
 
     /// A number of pending changes at the limit, just past it or somewhere around.
@@ -110,7 +110,7 @@ impl Generator {
     }
 
     /// Adds a module that passes on what the node does. A settled one begins as the node does.
-    fn add_passing(&mut self, sheet: &mut Sheet, node: u8, delay: usize, settled: bool) {
+    pub(crate) fn add_passing(&mut self, sheet: &mut Sheet, node: u8, delay: usize, settled: bool) {
         let kind = self.kind_among(PASSING);
         let initial = if settled {
             passed_on(kind, begins_with(sheet, node))
@@ -136,20 +136,17 @@ impl Generator {
 
     /// The sheet with some nodes watched and all numbered anyhow, and a horizon: mostly one from
     /// `enough` on, where no change of the busiest tick is cut off.
-    fn numbered_anyhow(&mut self, mut sheet: Sheet, enough: usize) -> RunInput {
+    fn with_horizon(&mut self, mut sheet: Sheet, enough: usize) -> RunInput {
         self.add_idle_inputs(&mut sheet);
-        let percent = self.random.pick(&[0, 5, 50]);
-        let numbers = sheet.node_numbers();
-        sheet.watched = numbers.filter(|_| self.random.chance(percent)).collect();
-        let to = self.permutation(sheet.nodes.len());
-        let order = self.order(sheet.modules.len());
+        let watched = self.random.pick(&[0, 5, 50]);
+        let sheet = self.numbered_anyhow(sheet, watched);
         let horizon = if self.random.chance(80) {
             self.random.between(enough, enough + 20)
         } else {
             self.random.between(enough / 2, enough)
         };
         RunInput {
-            sheet: renumbered(&sheet, &to, &order).encode(self.edition),
+            sheet,
             horizon: horizon as u32,
         }
     }

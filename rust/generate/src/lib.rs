@@ -1,8 +1,9 @@
 //! A seeded generator of network sheets, good and bad.
 //!
 //! Every stream of sheets is determined by its seed, so a failing one can be made again. The
-//! families are named and stand in files of their own; [`Generator::any`] mixes them, and
-//! [`Generator::run_input`] mixes what runs are given.
+//! families are named and stand in files of their own; [`Generator::any`] mixes them,
+//! [`Generator::run_input`] mixes what runs are given, and [`Generator::pulses_input`] what reports of
+//! pulses are.
 
 #![forbid(unsafe_code)]
 
@@ -21,6 +22,9 @@ mod kinds;
 pub mod limits;
 mod met;
 mod mixture;
+pub mod pulses;
+pub mod pulses_by_hand;
+mod pulses_input;
 mod random;
 mod reorder;
 mod room;
@@ -35,6 +39,7 @@ mod zero_delay;
 
 pub use conversion::Output;
 pub use met::assert_met;
+pub use pulses_input::PulsesInput;
 pub use room::{room_for_all, Room};
 pub use run_mixture::RunInput;
 pub use start::{starts_of, Start};

@@ -1,4 +1,4 @@
-//! Document 01's limits that generated runs meet, the size of a record, and how many are printed.
+//! The limits that generated runs and reports meet, the sizes of their records, and how many are printed.
 
 /// The last horizon that runs.
 pub const LAST_HORIZON: u32 = 1_000_000;
@@ -14,6 +14,12 @@ pub const MOST_PENDING: usize = 4_096;
 
 /// The bytes of a record in a listing.
 pub const RECORD_BYTES: usize = 10;
+
+/// The greatest width that pulses are reported for.
+pub const GREATEST_WIDTH: u32 = 10_000;
+
+/// The bytes of a pulse in a report.
+pub const PULSE_BYTES: usize = 9;
 
 /// The most records that the program prints: those that the 60,000 bytes it lends take.
 pub const MOST_PRINTED: u32 = 6_000;

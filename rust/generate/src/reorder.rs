@@ -21,6 +21,16 @@ impl Generator {
         order
     }
 
+    /// The bytes of the sheet with so many of a hundred nodes watched, all numbered anyhow, and its modules
+    /// listed in some other order.
+    pub(crate) fn numbered_anyhow(&mut self, mut sheet: Sheet, watched: usize) -> Vec<u8> {
+        let numbers = sheet.node_numbers();
+        sheet.watched = numbers.filter(|_| self.random.chance(watched)).collect();
+        let to = self.permutation(sheet.nodes.len());
+        let order = self.order(sheet.modules.len());
+        renumbered(&sheet, &to, &order).encode(self.edition)
+    }
+
     /// The sheet with its modules listed in some other order.
     pub(crate) fn reordered(&mut self, sheet: &Sheet) -> Sheet {
         let same: Vec<u8> = sheet.node_numbers().collect();

@@ -1,37 +1,45 @@
-//! Lengths of the buffers that runs are lent, seen from the records of the whole listing.
+//! Lengths of the buffers that runs and reports are lent, seen from the records of all that there is to
+//! write.
 
 use plain::Edition;
 
-use crate::limits::{LAST_HORIZON, RECORD_BYTES};
+use crate::limits::{LAST_HORIZON, PULSE_BYTES, RECORD_BYTES};
 use crate::Generator;
 
 #[derive(Debug, Clone, Copy, PartialEq, Eq)]
 pub enum Room {
     /// No byte at all.
     Empty,
-    /// The whole listing and nothing more.
+    /// The whole listing or report and nothing more.
     Exact,
     ByteShort,
     RecordShort,
-    /// Far more than the listing.
+    ByteLong,
+    /// Far more than the whole.
     Ample,
-    /// Anything up to a little more than the listing.
+    /// Anything up to a little more than the whole.
     Any,
 }
 
 impl Room {
-    pub const ALL: [Room; 6] = [
+    pub const ALL: [Room; 7] = [
         Room::Empty,
         Room::Exact,
         Room::ByteShort,
         Room::RecordShort,
+        Room::ByteLong,
         Room::Ample,
         Room::Any,
     ];
+
+    /// Whether such a buffer takes the whole, whatever that is.
+    pub fn is_enough(self) -> bool {
+        matches!(self, Room::Exact | Room::ByteLong | Room::Ample)
+    }
 }
 
 impl Generator {
-    /// Any sort of buffer, those that take the whole listing more often.
+    /// Any sort of buffer, those that take the whole more often.
     pub fn room(&mut self) -> Room {
         if self.random.chance(30) {
             self.random.pick(&[Room::Exact, Room::Ample])
@@ -42,14 +50,24 @@ impl Generator {
 
     /// The bytes of such a buffer for a listing of so many records.
     pub fn bytes_of(&mut self, room: Room, records: usize) -> usize {
-        let exact = RECORD_BYTES * records;
+        self.bytes_of_records(room, RECORD_BYTES, records)
+    }
+
+    /// The bytes of such a buffer for a report of so many pulses.
+    pub fn report_bytes_of(&mut self, room: Room, pulses: usize) -> usize {
+        self.bytes_of_records(room, PULSE_BYTES, pulses)
+    }
+
+    fn bytes_of_records(&mut self, room: Room, record_bytes: usize, records: usize) -> usize {
+        let exact = record_bytes * records;
         match room {
             Room::Empty => 0,
             Room::Exact => exact,
             Room::ByteShort => exact.saturating_sub(1),
-            Room::RecordShort => exact.saturating_sub(RECORD_BYTES),
+            Room::RecordShort => exact.saturating_sub(record_bytes),
+            Room::ByteLong => exact + 1,
             Room::Ample => exact + self.random.pick(&[100, 1_001, 60_000]),
-            Room::Any => self.random.between(0, exact + 2 * RECORD_BYTES),
+            Room::Any => self.random.between(0, exact + 2 * record_bytes),
         }
     }
 }

@@ -33,7 +33,7 @@ fn over_three_inputs(initial: &[u8], modules: &[Module], drive: &[Change]) -> Sh
 
 /// A multiplexer of delay 2. It takes the first input, then the second, neither while they differ, both
 /// while they are 1, and last a first input of no value.
-fn every_choice() -> Case {
+pub fn every_choice() -> Case {
     let drive = [
         (0, 0, LOW),
         (0, 1, HIGH),

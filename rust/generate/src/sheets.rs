@@ -2,7 +2,7 @@
 
 use plain::{Event, Module, Sheet};
 
-use crate::limits::RECORD_BYTES;
+use crate::limits::{PULSE_BYTES, RECORD_BYTES};
 
 pub const CONSTANT: u8 = 0;
 pub const BUFFER: u8 = 1;
@@ -26,6 +26,9 @@ pub type Change = (u32, u8, u8);
 
 /// Tick, node, value and end: a record of a listing.
 pub type Record = (u32, u8, u8, u32);
+
+/// Start tick, node and length: a record of a report of pulses.
+pub type Pulse = (u32, u8, u32);
 
 /// A gate from its inputs to its output. An input that the kind lacks is 0, and so is one that is not
 /// given.
@@ -79,4 +82,15 @@ pub fn records(listing: &[u8]) -> Vec<Record> {
         (tick, node, value, end)
     };
     records.iter().map(record).collect()
+}
+
+/// The pulses of a report's bytes.
+pub fn pulses(report: &[u8]) -> Vec<Pulse> {
+    let (pulses, rest) = report.as_chunks();
+    assert!(rest.is_empty(), "a report is made of whole pulses");
+    let pulse = |&[s0, s1, s2, s3, node, l0, l1, l2, l3]: &[u8; PULSE_BYTES]| {
+        let [start, length] = [[s0, s1, s2, s3], [l0, l1, l2, l3]].map(u32::from_le_bytes);
+        (start, node, length)
+    };
+    pulses.iter().map(pulse).collect()
 }

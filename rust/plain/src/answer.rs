@@ -1,7 +1,7 @@
 //! The answer of a call.
 
-/// Either a finished call with its count of records or bytes, or a refusal with its number, its place
-/// and the count of records written before it.
+/// Either a finished call with its count of records, bytes or pulses, or a refusal with its number, its
+/// place and the count of records written before it.
 #[derive(Debug, Clone, Copy, PartialEq, Eq)]
 pub enum Answer {
     Ran { count: u32 },

@@ -10,21 +10,37 @@ use crate::sheet::Sheet;
 
 /// Runs the sheet to the horizon and writes its records to the front of `listing`.
 pub fn run(edition: Edition, sheet: &[u8], horizon: u32, listing: &mut [u8]) -> Answer {
-    if horizon == 0 || horizon > 1_000_000 {
-        return Answer::unread(1, 0);
-    }
-    match read(edition, sheet) {
-        Ok(sheet) => list(&sheet, horizon, listing),
+    match settled(edition, sheet, horizon) {
+        Ok((sheet, cells)) => list(&sheet, &cells, horizon, listing),
         Err(refusal) => refusal,
     }
 }
 
+/// The sheet and its cells up to the horizon, or the refusal met before the first tick.
+pub(crate) fn settled(
+    edition: Edition,
+    sheet: &[u8],
+    horizon: u32,
+) -> Result<(Sheet, Vec<Vec<u8>>), Answer> {
+    horizon_in_range(horizon)?;
+    let sheet = read(edition, sheet)?;
+    let cells = cells(&sheet, horizon);
+    Ok((sheet, cells))
+}
+
+/// Refusal 1.
+pub(crate) fn horizon_in_range(horizon: u32) -> Result<(), Answer> {
+    match horizon {
+        1..=1_000_000 => Ok(()),
+        _ => Err(Answer::unread(1, 0)),
+    }
+}
+
 /// Nothing is written before it is known which ticks are listed, for no end lies past them.
-fn list(sheet: &Sheet, horizon: u32, listing: &mut [u8]) -> Answer {
-    let cells = cells(sheet, horizon);
-    let answer = answer(sheet, &cells, listing.len() / Record::BYTES);
+pub(crate) fn list(sheet: &Sheet, cells: &[Vec<u8>], horizon: u32, listing: &mut [u8]) -> Answer {
+    let answer = answer(sheet, cells, listing.len() / Record::BYTES);
     let bound = bound(answer, horizon);
-    let records = (0..bound).flat_map(|tick| records_at(sheet, &cells, tick, bound));
+    let records = (0..bound).flat_map(|tick| records_at(sheet, cells, tick, bound));
     let mut places = listing.chunks_exact_mut(Record::BYTES);
     for record in records {
         let place = places.next().expect("every listed tick found room");

@@ -10,13 +10,14 @@ enum Sort {
     Node,
     Tick,
     Length,
+    Pulses,
     Bare,
 }
 
 use Sort::*;
 
-/// What is wrong, and what the place counts, of refusals 1 to 23.
-const PHRASES: [(&str, Sort); 23] = [
+/// What is wrong, and what the place counts, of refusals 1 to 25.
+const PHRASES: [(&str, Sort); 25] = [
     ("the horizon is not from 1 to 1,000,000 ticks", Bare),
     ("the sheet's bytes end inside a count or a record", Byte),
     (
@@ -75,6 +76,8 @@ const PHRASES: [(&str, Sort); 23] = [
         "the output buffer is shorter than the sheet to be written",
         Length,
     ),
+    ("the pulse width is not from 1 to 10,000 ticks", Bare),
+    ("the report buffer has no room for all pulses", Pulses),
 ];
 
 /// The phrase of a refusal's number, if it has one.
@@ -94,6 +97,7 @@ fn with_sort(sort: Sort, place: u32) -> String {
         Node => format!("at node {place}"),
         Tick => format!("at tick {place}"),
         Length => format!("length needed {place}"),
+        Pulses => format!("pulses to report {place}"),
         Bare => format!("place {place}"),
     }
 }

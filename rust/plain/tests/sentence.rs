@@ -48,8 +48,17 @@ fn sentences() {
              8704; records written: 0",
         ),
         (
-            refused(24, 1, 2),
-            "refused: the reason is not listed, number 24, place 1; records written: 2",
+            refused(24, 0, 0),
+            "refused: the pulse width is not from 1 to 10,000 ticks, place 0; records written: 0",
+        ),
+        (
+            refused(25, 12, 30),
+            "refused: the report buffer has no room for all pulses, pulses to report 12; records \
+             written: 30",
+        ),
+        (
+            refused(26, 1, 2),
+            "refused: the reason is not listed, number 26, place 1; records written: 2",
         ),
         (
             refused(4_294_967_295, 5, 6),
@@ -76,7 +85,7 @@ fn a_refusal_of_number_0() {
 #[test]
 fn no_phrase_begins_another() {
     let phrases: Vec<&str> = (0..100).filter_map(phrase).collect();
-    assert_eq!(phrases.len(), 23);
+    assert_eq!(phrases.len(), 25);
     for (i, one) in phrases.iter().enumerate() {
         for (j, other) in phrases.iter().enumerate() {
             assert!(i == j || !other.starts_with(one), "{one}; {other}");

@@ -1,15 +1,16 @@
 /*
  * One call, over the sheet at standard input if it takes one, for the tests: prints the answer's
- * three words in a line and, where a buffer is lent, every byte of it in hexadecimal in a second one.
+ * three words in a line and, for each buffer that is lent, every byte of it in hexadecimal in a line more.
  *
  *     calls check
  *     calls check_strict
  *     calls run HORIZON BYTES
+ *     calls pulses HORIZON WIDTH LISTING_BYTES REPORT_BYTES
  *     calls convert_1_to_2 BYTES
  *     calls convert_2_to_1 BYTES
  *     calls describe NUMBER PLACE COUNT BYTES
  *
- * Over a sheet of the second edition the first three are check_2, check_strict_2 and run_2.
+ * Over a sheet of the second edition the first four are check_2, check_strict_2, run_2 and pulses_2.
  */
 #include <inttypes.h>
 #include <stdio.h>
@@ -24,6 +25,8 @@
 /* The entry points' types, written once more: the header's must be these. */
 typedef void check_type(const uint8_t *, size_t, uint32_t *);
 typedef void run_type(const uint8_t *, size_t, uint32_t, uint8_t *, size_t, uint32_t *);
+typedef void pulses_type(const uint8_t *, size_t, uint32_t, uint32_t, uint8_t *, size_t, uint8_t *, size_t,
+                         uint32_t *);
 typedef void convert_type(const uint8_t *, size_t, uint8_t *, size_t, uint32_t *);
 
 static const struct {
@@ -46,6 +49,14 @@ static const struct {
 
 static const struct {
     const char *name;
+    pulses_type *call;
+} reports[] = {
+    {"pulses", timing_pulses},
+    {"pulses_2", timing_pulses_2}
+};
+
+static const struct {
+    const char *name;
     convert_type *call;
 } conversions[] = {
     {"convert_1_to_2", timing_convert_1_to_2},
@@ -56,16 +67,17 @@ static void (*const describe_call)(uint32_t, uint32_t, uint32_t, uint8_t *, size
 
 static uint8_t sheet[2 * TIMING_LONGEST_SHEET_2];
 static uint8_t lent[60000];
+static uint8_t report[60000];
 
 static void print_answer(const uint32_t answer[3])
 {
     printf("%" PRIu32 " %" PRIu32 " %" PRIu32 "\n", answer[0], answer[1], answer[2]);
 }
 
-static void print_lent(size_t bytes)
+static void print_bytes(const uint8_t *buffer, size_t bytes)
 {
     for (size_t i = 0; i < bytes; i++)
-        printf("%02X", lent[i]);
+        printf("%02X", buffer[i]);
     printf("\n");
 }
 
@@ -84,7 +96,19 @@ static void run(run_type *call, size_t length, uint32_t horizon, size_t bytes)
     memset(lent, UNTOUCHED, sizeof lent);
     call(sheet, length, horizon, lent, bytes, answer);
     print_answer(answer);
-    print_lent(bytes);
+    print_bytes(lent, bytes);
+}
+
+static void pulses(pulses_type *call, size_t length, const uint32_t words[2], size_t bytes, size_t report_bytes)
+{
+    uint32_t answer[3] = {UINT32_MAX, UINT32_MAX, UINT32_MAX};
+
+    memset(lent, UNTOUCHED, sizeof lent);
+    memset(report, UNTOUCHED, sizeof report);
+    call(sheet, length, words[0], words[1], lent, bytes, report, report_bytes, answer);
+    print_answer(answer);
+    print_bytes(lent, bytes);
+    print_bytes(report, report_bytes);
 }
 
 static void convert(convert_type *call, size_t length, size_t bytes)
@@ -94,7 +118,7 @@ static void convert(convert_type *call, size_t length, size_t bytes)
     memset(lent, UNTOUCHED, sizeof lent);
     call(sheet, length, lent, bytes, answer);
     print_answer(answer);
-    print_lent(bytes);
+    print_bytes(lent, bytes);
 }
 
 static void describe(const uint32_t words[3], size_t bytes)
@@ -104,7 +128,7 @@ static void describe(const uint32_t words[3], size_t bytes)
     memset(lent, UNTOUCHED, sizeof lent);
     describe_call(words[0], words[1], words[2], lent, bytes, answer);
     print_answer(answer);
-    print_lent(bytes);
+    print_bytes(lent, bytes);
 }
 
 static uint32_t word(const char *digits)
@@ -132,6 +156,17 @@ int main(int argc, char **argv)
             }
         }
     }
+    for (size_t i = 0; i < sizeof reports / sizeof *reports; i++) {
+        if (argc == 6 && strcmp(argv[1], reports[i].name) == 0) {
+            const uint32_t words[2] = {word(argv[2]), word(argv[3])};
+            size_t bytes = strtoul(argv[4], NULL, 10), report_bytes = strtoul(argv[5], NULL, 10);
+
+            if (bytes <= sizeof lent && report_bytes <= sizeof report) {
+                pulses(reports[i].call, length, words, bytes, report_bytes);
+                return EXIT_SUCCESS;
+            }
+        }
+    }
     for (size_t i = 0; i < sizeof conversions / sizeof *conversions; i++) {
         if (argc == 3 && strcmp(argv[1], conversions[i].name) == 0) {
             size_t bytes = strtoul(argv[2], NULL, 10);
@@ -151,7 +186,8 @@ int main(int argc, char **argv)
             return EXIT_SUCCESS;
         }
     }
-    fprintf(stderr, "usage: calls CHECK | calls RUN HORIZON BYTES | calls CONVERSION BYTES |"
+    fprintf(stderr, "usage: calls CHECK | calls RUN HORIZON BYTES |"
+                    " calls PULSES HORIZON WIDTH LISTING_BYTES REPORT_BYTES | calls CONVERSION BYTES |"
                     " calls describe NUMBER PLACE COUNT BYTES\n");
     return EXIT_FAILURE;
 }

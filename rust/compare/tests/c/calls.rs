@@ -1,4 +1,4 @@
-//! Calls from C: the answer and every byte of the buffer are the plain simulator's.
+//! Calls from C: the answer and every byte of the buffers are the plain simulator's.
 
 use std::collections::BTreeSet;
 use std::sync::LazyLock;
@@ -7,14 +7,14 @@ use compare::hex;
 use generate::limits::RECORD_BYTES;
 use generate::shared::{four_buffers, toggled};
 use generate::sheets::constant;
-use generate::{by_hand, conversions_by_hand, runs_by_hand, Generator, Size};
+use generate::{by_hand, conversions_by_hand, pulses_by_hand, runs_by_hand, Generator, Size};
 use plain::{sentence, worked_run, Answer, Edition, Sheet, HIGH};
 
 use crate::compiled::Program;
 
 static CALLS: LazyLock<Program> = LazyLock::new(|| Program::new("calls"));
 
-/// What the buffer is filled with before a run.
+/// What a buffer is filled with before a call.
 const UNTOUCHED: u8 = 0xA5;
 
 fn words([number, place, count]: [u32; 3]) -> String {
@@ -54,6 +54,26 @@ fn ran(edition: Edition, sheet: &[u8], horizon: u32, bytes: usize, whence: &str)
     let arguments = [call, horizon.to_string(), bytes.to_string()];
     let printed = CALLS.printed(&arguments, sheet);
     let expected = format!("{}{}\n", words(answer), hex(&listing));
+    assert_eq!(printed, expected, "{whence}: {}", hex(sheet));
+    answer
+}
+
+/// Asserts that a report of pulses from C answers what the plain simulator does and leaves the same bytes in
+/// both buffers, and gives the answer.
+fn reported(
+    edition: Edition,
+    sheet: &[u8],
+    [horizon, width]: [u32; 2],
+    bytes: [usize; 2],
+    whence: &str,
+) -> [u32; 3] {
+    let [mut listing, mut report] = bytes.map(|bytes| vec![UNTOUCHED; bytes]);
+    let answer = plain::pulses(edition, sheet, horizon, width, &mut listing, &mut report).triple();
+    let mut arguments = vec![call_of(edition, "pulses")];
+    arguments.extend([horizon, width].map(|word| word.to_string()));
+    arguments.extend(bytes.map(|bytes| bytes.to_string()));
+    let printed = CALLS.printed(&arguments, sheet);
+    let expected = format!("{}{}\n{}\n", words(answer), hex(&listing), hex(&report));
     assert_eq!(printed, expected, "{whence}: {}", hex(sheet));
     answer
 }
@@ -164,6 +184,17 @@ fn conversions_worked_out_by_hand() {
     }
 }
 
+/// Document 02's W-208 from C: every refusal of a run, 24 and 25, and what both buffers hold.
+#[test]
+fn pulses_worked_out_by_hand() {
+    for case in pulses_by_hand::cases() {
+        let numbers = [case.horizon, case.width];
+        let bytes = [case.listing_bytes, case.report_bytes];
+        let answer = reported(case.edition, &case.sheet, numbers, bytes, &case.whence());
+        assert_eq!(answer, case.answer, "{}", case.whence());
+    }
+}
+
 /// Document 02's W-205 from C.
 #[test]
 fn runs_of_three_inputs() {
@@ -179,6 +210,8 @@ fn a_full_sheet() {
     for edition in Edition::ALL {
         let sheet = Generator::of(edition, 4).valid(Size::Full).encode(edition);
         let [number, ..] = ran(edition, &sheet, 20, 60_000, "full");
+        assert_eq!(number, 0);
+        let [number, ..] = reported(edition, &sheet, [20, 20], [60_000, 60_000], "full");
         assert_eq!(number, 0);
         // Many modules of the second edition's sheet have three inputs.
         let [number, ..] = converted(edition, &sheet, 60_000, "full");

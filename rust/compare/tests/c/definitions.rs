@@ -42,20 +42,22 @@ fn cases(file: &str, word: &str) -> Vec<Named> {
     found
 }
 
-/// Every refusal's name and number: 2 to 18, then those of a run, that of a description, and those of a
-/// conversion, of which the last is that of any sheet to be written.
+/// Every refusal's name and number: 2 to 18, then those of a run, that of a description, those of a
+/// conversion, of which the last is that of any sheet to be written, and those of a report of pulses.
 pub fn refusals() -> Vec<Named> {
     let of_a_sheet = cases("format/specs/Condition.antt", "ConditionBy ");
     let of_a_run = cases("network/specs/RunConditions.antt", "(refused ");
     let of_a_text = constants("sentence/specs/Describing.antt");
     let of_a_conversion = constants("convert/specs/Conversion.antt");
     let of_an_output = constants("format/specs/Made.antt");
+    let of_a_report = constants("pulses/specs/Reporting.antt");
     [
         of_a_sheet,
         of_a_run,
         of_a_text,
         of_a_conversion,
         of_an_output,
+        of_a_report,
     ]
     .concat()
 }
@@ -69,10 +71,14 @@ fn constants(file: &str) -> Vec<Named> {
     text(file).lines().filter_map(constant).collect()
 }
 
-/// Document 01's limits, and the size of a record.
+/// Document 01's limits and the size of a record, the greatest width and the size of a pulse.
 pub fn limits() -> Vec<Named> {
-    let limits = constants("sheet/specs/Limits.antt");
-    [limits, constants("network/specs/Buffer.antt")].concat()
+    let files = [
+        "sheet/specs/Limits.antt",
+        "network/specs/Buffer.antt",
+        "pulses/specs/Report.antt",
+    ];
+    files.map(constants).concat()
 }
 
 /// The values of a cell.

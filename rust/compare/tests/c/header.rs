@@ -75,7 +75,7 @@ pub fn refusals_of_header() -> Vec<Named> {
 fn refusals() {
     let in_header = refusals_of_header();
     let numbers: Vec<u32> = in_header.iter().map(|&(_, number)| number).collect();
-    assert_eq!(numbers, Vec::from_iter(1..=23));
+    assert_eq!(numbers, Vec::from_iter(1..=25));
     same(in_header, definitions::refusals());
 }
 

@@ -6,11 +6,12 @@
  *     stack check
  *     stack check_strict
  *     stack run HORIZON
+ *     stack pulses HORIZON WIDTH
  *     stack convert_1_to_2
  *     stack convert_2_to_1
  *     stack describe NUMBER PLACE COUNT
  *
- * Over a sheet of the second edition the first three are check_2, check_strict_2 and run_2.
+ * Over a sheet of the second edition the first four are check_2, check_strict_2, run_2 and pulses_2.
  */
 #define _POSIX_C_SOURCE 200809L
 
@@ -24,12 +25,14 @@
 #define STACK ((size_t)1 << 20)
 #define PAGE 4096
 #define UNTOUCHED 0xA5
+#define MOST_TICKS 2000 /* a run to a horizon up to this one finds room, so that a report is made */
 
 static uint8_t sheet[2 * TIMING_LONGEST_SHEET_2];
 static size_t length;
 static const char *call;
 static uint32_t words[3]; /* the call's numbers */
-static uint8_t listing[60000];
+static uint8_t listing[(size_t)TIMING_MOST_WATCHED * MOST_TICKS * TIMING_RECORD_SIZE];
+static uint8_t report[60000];
 static uint8_t output[2 * TIMING_LONGEST_SHEET_2];
 static uint8_t text[TIMING_LONGEST_SENTENCE];
 static uint32_t answer[3];
@@ -59,6 +62,10 @@ static void *call_on(void *stack)
         timing_run(sheet, length, words[0], listing, sizeof listing, answer);
     else if (strcmp(call, "run_2") == 0)
         timing_run_2(sheet, length, words[0], listing, sizeof listing, answer);
+    else if (strcmp(call, "pulses") == 0)
+        timing_pulses(sheet, length, words[0], words[1], listing, sizeof listing, report, sizeof report, answer);
+    else if (strcmp(call, "pulses_2") == 0)
+        timing_pulses_2(sheet, length, words[0], words[1], listing, sizeof listing, report, sizeof report, answer);
     else if (strcmp(call, "convert_1_to_2") == 0)
         timing_convert_1_to_2(sheet, length, output, sizeof output, answer);
     else if (strcmp(call, "convert_2_to_1") == 0)

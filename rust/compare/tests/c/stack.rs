@@ -59,16 +59,16 @@ fn stated(name: &str, used: u32) {
 #[test]
 fn the_stack_of_every_call() {
     let program = Program::new("stack");
-    for (edition, [check, check_strict, convert], run) in [
+    for (edition, [check, check_strict, convert], [run, pulses]) in [
         (
             Edition::First,
             ["check", "check_strict", "convert_1_to_2"],
-            "run",
+            ["run", "pulses"],
         ),
         (
             Edition::Second,
             ["check_2", "check_strict_2", "convert_2_to_1"],
-            "run_2",
+            ["run_2", "pulses_2"],
         ),
     ] {
         let most_used = |arguments: &[&str]| most_used(&program, edition, arguments);
@@ -76,6 +76,7 @@ fn the_stack_of_every_call() {
         stated("TIMING_CHECK_STACK", most_used(&[check_strict]));
         stated("TIMING_CHECK_STACK", most_used(&[convert]));
         stated("TIMING_RUN_STACK", most_used(&[run, "2000"]));
+        stated("TIMING_RUN_STACK", most_used(&[pulses, "2000", "100"]));
     }
     stated("TIMING_DESCRIBE_STACK", most_described(&program));
 }

@@ -48,8 +48,8 @@ impl Met {
         self.of_three += u64::from(is_finished && of_three);
     }
 
-    /// Asserts that everything was met often. A run never meets 15, and only an exact and an ample
-    /// buffer are never too short.
+    /// Asserts that everything was met often. A run never meets 15, and only buffers that take the whole
+    /// listing are never too short.
     fn assert_often(&self, edition: Edition, seed: u64) {
         assert_met(&self.numbers, 100, &[15], &format!("seed {seed}"));
         assert!(self.numbers[0] >= 30_000, "seed {seed}: {self:?}");
@@ -61,7 +61,7 @@ impl Met {
         }
         self.ends.assert_often(1_000, &format!("seed {seed}"));
         for (room, [lent, too_short]) in Room::ALL.into_iter().zip(self.rooms) {
-            let never = matches!(room, Room::Exact | Room::Ample);
+            let never = room.is_enough();
             assert!(lent >= 10_000, "seed {seed}, {room:?}: {self:?}");
             assert_eq!(too_short == 0, never, "seed {seed}, {room:?}: {self:?}");
         }

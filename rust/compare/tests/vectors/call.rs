@@ -5,6 +5,9 @@ use plain::Edition;
 
 use crate::vector::{Outcome, Vector, UNTOUCHED};
 
+/// A report of pulses, given the horizon and the width.
+type Pulses = fn(Edition, &[u8], u32, u32, &mut [u8], &mut [u8]) -> [u32; 3];
+
 /// The calls that vectors name, each giving number, place and count.
 pub struct Simulator {
     pub name: &'static str,
@@ -12,6 +15,7 @@ pub struct Simulator {
     check_strict: fn(Edition, &[u8]) -> [u32; 3],
     run: fn(Edition, &[u8], u32, &mut [u8]) -> [u32; 3],
     convert: fn(Edition, &[u8], &mut [u8]) -> [u32; 3],
+    pulses: Pulses,
 }
 
 pub const PROVED: Simulator = Simulator {
@@ -20,6 +24,7 @@ pub const PROVED: Simulator = Simulator {
     check_strict: compare::check_strict,
     run: compare::run,
     convert: compare::convert,
+    pulses: compare::pulses,
 };
 
 pub const PLAIN: Simulator = Simulator {
@@ -28,6 +33,9 @@ pub const PLAIN: Simulator = Simulator {
     check_strict: |edition, sheet| plain::check_strict(edition, sheet).triple(),
     run: |edition, sheet, horizon, listing| plain::run(edition, sheet, horizon, listing).triple(),
     convert: |from, sheet, output| plain::convert(from, sheet, output).triple(),
+    pulses: |edition, sheet, horizon, width, listing, report| {
+        plain::pulses(edition, sheet, horizon, width, listing, report).triple()
+    },
 };
 
 impl Simulator {
@@ -39,36 +47,39 @@ impl Simulator {
             ..
         } = *vector;
         match (vector.call, &vector.numbers[..]) {
-            ("check", []) => answered((self.check)(edition, sheet)),
-            ("check_strict", []) => answered((self.check_strict)(edition, sheet)),
-            ("run", &[length]) => over_buffer(length, |listing| {
+            ("check", []) => over_buffers([], |[]| (self.check)(edition, sheet)),
+            ("check_strict", []) => over_buffers([], |[]| (self.check_strict)(edition, sheet)),
+            ("run", &[length]) => over_buffers([length], |[listing]| {
                 (self.run)(edition, sheet, horizon, listing)
             }),
             ("convert", &[length]) => {
-                over_buffer(length, |output| (self.convert)(edition, sheet, output))
+                over_buffers([length], |[output]| (self.convert)(edition, sheet, output))
+            }
+            ("pulses", &[width, listing, report]) => {
+                over_buffers([listing, report], |[listing, report]| {
+                    (self.pulses)(edition, sheet, horizon, width, listing, report)
+                })
             }
             (call, numbers) => panic!("line {}: {call} with {numbers:?}", vector.line),
         }
     }
 }
 
-/// What a call that is lent no buffer comes to.
-fn answered(answer: [u32; 3]) -> Outcome {
+/// What a call that is lent buffers of these lengths comes to. One of no bytes has no field in a vector.
+fn over_buffers<const N: usize>(
+    lengths: [u32; N],
+    call: impl FnOnce([&mut [u8]; N]) -> [u32; 3],
+) -> Outcome {
+    let lengths = lengths.map(|length| length as usize);
+    let mut buffers = lengths.map(untouched);
+    let answer = call(buffers.each_mut().map(Lent::lent));
+    let lent = buffers.iter().zip(lengths);
+    let with_bytes = lent.filter(|&(_, length)| length > 0);
     Outcome {
         answer,
-        buffers: Vec::new(),
-    }
-}
-
-/// What a call that is lent one buffer comes to. One of no bytes has no field in a vector.
-fn over_buffer(length: u32, call: impl FnOnce(&mut [u8]) -> [u32; 3]) -> Outcome {
-    let length = length as usize;
-    let mut buffer = untouched(length);
-    let answer = call(buffer.lent());
-    let left = left(&buffer, length);
-    Outcome {
-        answer,
-        buffers: if length == 0 { vec![] } else { vec![left] },
+        buffers: with_bytes
+            .map(|(buffer, length)| left(buffer, length))
+            .collect(),
     }
 }
 

@@ -18,6 +18,9 @@ const AFTER_205: &str = include_str!("after-205.txt");
 /// Those up to W-207: conversions from each edition to the other, and what the files before have.
 const AFTER_207: &str = include_str!("after-207.txt");
 
+/// Those up to W-208: reports of pulses, and what the files before have.
+const AFTER_208: &str = include_str!("after-208.txt");
+
 /// Asserts that both simulators give every vector's outcome, and that there are so many of each call in
 /// each edition.
 fn hold(text: &str, calls: &[(Edition, &str, usize)]) {
@@ -74,4 +77,21 @@ fn after_207() {
         (Edition::Second, "convert", 152),
     ];
     hold(AFTER_207, &calls);
+}
+
+#[test]
+fn after_208() {
+    let calls = [
+        (Edition::First, "check", 37),
+        (Edition::First, "check_strict", 43),
+        (Edition::First, "run", 42),
+        (Edition::First, "convert", 43),
+        (Edition::First, "pulses", 162),
+        (Edition::Second, "check", 34),
+        (Edition::Second, "check_strict", 41),
+        (Edition::Second, "run", 44),
+        (Edition::Second, "convert", 40),
+        (Edition::Second, "pulses", 164),
+    ];
+    hold(AFTER_208, &calls);
 }

@@ -8,6 +8,7 @@ mod faults;
 mod gates;
 mod memory;
 mod program;
+mod pulses;
 mod refusals;
 mod renumbering;
 mod second_edition;
