@@ -63,9 +63,12 @@ abbrev pub ranSheet : Sheet → ℕ → ℕ → Written
 ranSheet S horizon bytes = writtenOf S (cellsOf S horizon) horizon bytes
 
 -- a refusal before any tick writes nothing
+abbrev pub unlessRefused : Outcome → Written → Written
+unlessRefused (finished n) run = run
+unlessRefused (refused n p k) run = wrote (refused n p k) []
+
 abbrev pub afterCheck : Sheet → ℕ → ℕ → Outcome → Written
-afterCheck S horizon bytes (finished n) = ranSheet S horizon bytes
-afterCheck S horizon bytes (refused n p k) = wrote (refused n p k) []
+afterCheck S horizon bytes check = unlessRefused check (ranSheet S horizon bytes)
 
 abbrev pub horizonOutside : ℕ → Bool
 horizonOutside horizon = zeroOrAbove greatestHorizon horizon

@@ -1,8 +1,8 @@
 -- What reporting answers and leaves: refused before the run, refused by it, or made from the listing of a finished run. Assumes nothing.
-use mathlib.Core.List.{List, []}
+use mathlib.Core.List.{List}
 use mathlib.Core.Path.{_≡_, refl, sym, ap, _∙_, subst}
 use native.Mathlib.Omega.{arith}
-use Prim.Native.Nat.{ℕ, _<_}
+use Prim.Native.Nat.{ℕ}
 use lib.ListN.{length}
 use Rattle.sheet.specs.declared.Edition.{Edition}
 use Rattle.sheet.specs.Layout.{sheetOf}
@@ -10,16 +10,14 @@ use Rattle.sheet.specs.Outcome.{Outcome, finished, refused}
 use Rattle.format.specs.Accepted.{Known}
 use Rattle.format.specs.Made.{Makes}
 use Rattle.format.proofs.Made.{refused-before}
-use Rattle.network.specs.Ends.{Ended, endedListing}
 use Rattle.network.specs.Buffer.{bufferAfter}
-use Rattle.network.specs.Timeline.{Cells}
-use Rattle.network.specs.Run.{Written, wrote, cellsOf, ran, Leaves, RunLeaves}
+use Rattle.network.specs.Run.{Written, cellsOf, unlessRefused, ran, RunLeaves}
 use Rattle.network.specs.Demand2.{RunOf}
 use Rattle.network.proofs.Demand2.{demand-2, timelines-exist}
 use Rattle.network.proofs.RunConditions.{FinishedRun, finished-run}
 use Rattle.listing.proofs.Buffer.{buffer-none}
 use Rattle.pulses.specs.InListing.{pulsesIn}
-use Rattle.pulses.specs.Reporting.{asked, afterAsked, ranFor, pulsesOf, reportOf, Reports}
+use Rattle.pulses.specs.Reporting.{asked, ranFor, pulsesOf, reportOf, Reports}
 use Rattle.pulses.proofs.Records.{shown, from-listing, from-bytes}
 
 module _ {E : Edition} (known : Known E) (s : List ℕ) (horizon width : ℕ) where
@@ -50,14 +48,14 @@ module _ {E : Edition} (known : Known E) (s : List ℕ) (horizon width : ℕ) wh
     pub refused-asked : {n p k : ℕ} → asked horizon width ≡ refused n p k → Reports E s horizon width listing report (refused n p k) listing report
     refused-asked {n} {p} {k} e =
         record {
-          left = sym (ap (λ o. bufferAfter (afterAsked o run .records) listing) e ∙ buffer-none listing);
-          makes = refused-before (reportOf (pulsesOf E s horizon width) (length (ranFor E s horizon width (length listing) .records))) report (ap (λ o. afterAsked o run .answer) e);
+          left = sym (ap (λ o. bufferAfter (unlessRefused o run .records) listing) e ∙ buffer-none listing);
+          makes = refused-before (reportOf (pulsesOf E s horizon width) (length (ranFor E s horizon width (length listing) .records))) report (ap (λ o. unlessRefused o run .answer) e);
         }
 
     -- the run is that of the sheet
     module _ {j : ℕ} (in-range : asked horizon width ≡ finished j) where
       runs : ranFor E s horizon width (length listing) ≡ run
-      runs = ap (λ o. afterAsked o run) in-range
+      runs = ap (λ o. unlessRefused o run) in-range
 
       -- what it refuses stands
       pub refused-run : {n p k : ℕ} {listed : List ℕ} → RunLeaves E s horizon listing (refused n p k) listed → Reports E s horizon width listing report (refused n p k) listed report

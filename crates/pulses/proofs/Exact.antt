@@ -1,23 +1,22 @@
 -- What the records of a whole listing show is every pulse shorter than the width and no other, each once, rising. Assumes nothing.
 use lib.Dec.{T, eqb, ltb, not-T, eqb→eq}
-use lib.ListN.{length}
 use mathlib.Core.Bool.{Bool, true, false, _&&_, true≢false}
 use mathlib.Core.List.{List, [], _∷_, flatMap, List·Memᴰ, List·Memᴰ·head, List·Memᴰ·tail, List·Memᴰ·not-nil, List·Memᴰ·cases-cons, List·Memᴰ·append-cases, Memᴰ·append-left, Memᴰ·append-right}
 use mathlib.Core.Logic.{_↔_, _⊎_, inl, inr}
 use mathlib.Core.Path.{_≡_, refl, sym, ap, _∙_, subst}
 use native.Mathlib.Nat.{add-zero, not-suc-le-zero}
 use native.Mathlib.Omega.{arith}
-use Prim.Native.Nat.{ℕ, zero, suc, _+_, _-_, _<_, _≤_, zero-le, suc-le-suc}
+use Prim.Native.Nat.{ℕ, zero, suc, _+_, _-_, _<_, zero-le, suc-le-suc}
 use Rattle.level.specs.Choice.{if_then_else_}
 use Rattle.sheet.specs.Sheet.{Sheet}
 use Rattle.sheet.proofs.Tests.{Tells, tells-lt, tells-and}
 use Rattle.network.specs.Timeline.{Cells}
 use Rattle.network.specs.Listing.{changes}
 use Rattle.network.specs.Ends.{Ended, endedKey}
-use Rattle.network.specs.Demand2.{Shown, Lasts, ShownUntil, Lists}
+use Rattle.network.specs.Demand2.{ShownUntil, Lists}
 use Rattle.network.proofs.Ends.{differs}
 use Rattle.network.proofs.Rising.{Pairs, Up, rising-pairs, pairs-at, pairs-append}
-use Rattle.pulses.specs.Pulse.{Pulse, pulseKey, IsPulse, IsShort, Pulses, toReport, pulseOf}
+use Rattle.pulses.specs.Pulse.{Pulse, pulseKey, IsShort, Pulses, toReport, pulseOf}
 use Rattle.pulses.specs.InListing.{pulseIn}
 use Rattle.pulses.proofs.Records.{shown}
 

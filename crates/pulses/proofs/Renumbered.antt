@@ -1,9 +1,8 @@
 -- What the records of a listing that is renumbered and sorted again show is what they showed, renumbered and sorted again. Assumes nothing.
-use lib.ListN.{length}
 use mathlib.Core.List.{List, [], _∷_, _++_, map, map-append, flatMap, List·Memᴰ}
 use mathlib.Core.Bool.{Bool, true, false}
 use mathlib.Core.Logic.{_↔_}
-use mathlib.Core.Path.{_≡_, refl, sym, ap, ap₂, _∙_, subst}
+use mathlib.Core.Path.{_≡_, refl, sym, ap₂, _∙_, subst}
 use native.Mathlib.Omega.{arith}
 use Prim.Native.Nat.{ℕ, _<_}
 use Rattle.level.specs.Choice.{if_then_else_}

@@ -1,7 +1,7 @@
 -- The theorems of the report, over a sheet's bytes: every short pulse and no other, none twice, rising; each answer under its condition; the report of a
 -- renumbered sheet. Assumes nothing.
 use mathlib.Core.Bool.{true, false}
-use mathlib.Core.List.{List, [], _++_}
+use mathlib.Core.List.{List, _++_}
 use mathlib.Core.Path.{_≡_, refl, sym, ap, _∙_, subst}
 use native.Mathlib.Omega.{arith}
 use Prim.Native.Nat.{ℕ, _*_, _<_, _≤_}
@@ -20,11 +20,11 @@ use Rattle.network.specs.Satisfied.{Satisfied}
 use Rattle.network.specs.Order.{Listed}
 use Rattle.network.specs.Ends.{endedKey}
 use Rattle.network.specs.Buffer.{bufferAfter}
-use Rattle.network.specs.Run.{Written, cellsOf, horizonOutside, ran}
+use Rattle.network.specs.Run.{Written, cellsOf, unlessRefused, horizonOutside, ran}
 use Rattle.network.specs.Demand2.{Lists}
 use Rattle.network.specs.Demand3.{RunsToHorizon, SameRenumbered}
 use Rattle.network.specs.Renumbering.{Permutation, sort, renumberedBytes, renumberedEnded, renumberedListing}
-use Rattle.network.proofs.Demand2.{demand-2, timelines-exist}
+use Rattle.network.proofs.Demand2.{demand-2}
 use Rattle.network.proofs.Demand3.{own-renumbered}
 use Rattle.network.proofs.Listing.{watched-nodes}
 use Rattle.network.proofs.Permuting.{to-once}
@@ -33,7 +33,7 @@ use Rattle.network.proofs.Sort.{sort-map-length}
 use Rattle.pulses.specs.Pulse.{pulseKey, Pulses}
 use Rattle.pulses.specs.Report.{greatestWidth, pulseSize, reportBytes}
 use Rattle.pulses.specs.Renumbered.{renumberedPulse, renumberedReport}
-use Rattle.pulses.specs.Reporting.{widthOutside, reportShort, asked, afterAsked, ranFor, pulsesOf, reportOf, Reports}
+use Rattle.pulses.specs.Reporting.{widthOutside, reportShort, asked, ranFor, pulsesOf, reportOf, Reports}
 use Rattle.pulses.proofs.Length.{report-length}
 use Rattle.pulses.proofs.Records.{shown}
 use Rattle.pulses.proofs.Exact.{exact}
@@ -83,7 +83,7 @@ module _ {E : Edition} (known : Known E) (s : List ℕ) (horizon width : ℕ) {l
     run = ran E s horizon (length listing)
 
     the-run : ranFor E s horizon width (length listing) ≡ run
-    the-run = ap (λ o. afterAsked o run) (asked-none horizon width h w)
+    the-run = ap (λ o. unlessRefused o run) (asked-none horizon width h w)
 
     -- the listing is what the run leaves,
     pub listing-left : listed ≡ bufferAfter (run .records) listing
@@ -137,11 +137,11 @@ module _ {E : Edition} (known : Known E) (s : List ℕ) (horizon width bytes : �
       ∙ ap (renumberedReport (π .to)) (records-show known s horizon width bytes (runs .count) (runs .answer))
 
   -- what comes before it, whether it is in range or not
-  answers-same : (o : Outcome) → afterAsked o (ran E p horizon bytes) .answer ≡ afterAsked o (ran E s horizon bytes) .answer
+  answers-same : (o : Outcome) → unlessRefused o (ran E p horizon bytes) .answer ≡ unlessRefused o (ran E s horizon bytes) .answer
   answers-same (finished n) = same .same-answer
   answers-same (refused n q k) = refl
 
-  records-renumbered : (o : Outcome) → afterAsked o (ran E p horizon bytes) .records ≡ renumberedListing (π .to) (afterAsked o (ran E s horizon bytes) .records)
+  records-renumbered : (o : Outcome) → unlessRefused o (ran E p horizon bytes) .records ≡ renumberedListing (π .to) (unlessRefused o (ran E s horizon bytes) .records)
   unfolding sort
   records-renumbered (finished n) = same .renumbered-listing
   records-renumbered (refused n q k) = refl

@@ -1,16 +1,16 @@
 -- Document 02, W-208: what reporting the short pulses of a sheet answers, and what listing and report then hold, for any bytes, horizon,
 -- width and lengths.
-use mathlib.Core.List.{List, []}
+use mathlib.Core.List.{List}
 use mathlib.Core.Path.{_≡_}
 use Prim.Native.Nat.{ℕ}
 use lib.ListN.{length}
 use Rattle.sheet.specs.declared.Edition.{Edition}
 use Rattle.sheet.specs.Layout.{sheetOf}
-use Rattle.sheet.specs.Outcome.{Outcome, finished, refused, orElse}
+use Rattle.sheet.specs.Outcome.{Outcome, orElse}
 use Rattle.sheet.specs.Range.{rangeAnswer, horizonAnswer}
 use Rattle.format.specs.Made.{Made, Makes}
 use Rattle.network.specs.Buffer.{bufferAfter}
-use Rattle.network.specs.Run.{Written, wrote, cellsOf, ran}
+use Rattle.network.specs.Run.{Written, cellsOf, unlessRefused, ran}
 use Rattle.pulses.specs.Pulse.{Pulse, shortPulses}
 use Rattle.pulses.specs.Report.{greatestWidth, reportBytes}
 
@@ -27,12 +27,8 @@ abbrev pub asked : ℕ → ℕ → Outcome
 asked horizon width = orElse (horizonAnswer horizon) (rangeAnswer widthOutside greatestWidth width)
 
 -- after these nothing is run
-abbrev pub afterAsked : Outcome → Written → Written
-afterAsked (finished n) run = run
-afterAsked (refused n p k) run = wrote (refused n p k) []
-
 abbrev pub ranFor : Edition → List ℕ → ℕ → ℕ → ℕ → Written
-ranFor e s horizon width bytes = afterAsked (asked horizon width) (ran e s horizon bytes)
+ranFor e s horizon width bytes = unlessRefused (asked horizon width) (ran e s horizon bytes)
 
 -- the short pulses of a sheet's bytes, by its cells
 abbrev pub pulsesOf : Edition → List ℕ → ℕ → ℕ → List Pulse

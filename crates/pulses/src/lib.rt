@@ -6,7 +6,7 @@ use listing::record_at;
 use sheet::Answer;
 ghost use mathlib.Core.List.{List};
 ghost use mathlib.Core.Path.{_≡_};
-ghost use Prim.Native.Nat.{ℕ, _-_};
+ghost use Prim.Native.Nat.{_-_};
 ghost use lib.ListN.{length};
 ghost use Rattle.sheet.specs.Outcome.{finished, outcomeOf};
 ghost use Rattle.format.specs.Encode.{longBytes};

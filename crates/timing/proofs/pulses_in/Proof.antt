@@ -1,6 +1,6 @@
 -- `timing::pulses_in` meets its contract: what is refused before the run, what the run refuses, and then the report. Assumes nothing.
 use borrow.Author.Needs.{needs}
-use mathlib.Core.Path.{_≡_, sym, ap, _∙_, subst}
+use mathlib.Core.Path.{sym, ap, _∙_, subst}
 use Rattle.sheet.specs.Outcome.{outcomeOf}
 use Rattle.network.specs.Run.{RunLeaves}
 use Rattle.pulses.specs.Reporting.{Reports}
