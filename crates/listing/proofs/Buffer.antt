@@ -34,7 +34,7 @@ written-sets n records buffer fits =
     rw e at (sets-eq (allBytes recordBytes records) buffer (recordSize * n) (omega arith))
 
 -- bytes that are put, as stores
-put-sets : (p : ℕ) (bytes listing : List ℕ) → p + length bytes ≤ length listing → put p bytes listing ≡ sets listing p bytes
+pub put-sets : (p : ℕ) (bytes listing : List ℕ) → p + length bytes ≤ length listing → put p bytes listing ≡ sets listing p bytes
 put-sets p bytes listing fits = sym (sets-eq bytes listing p fits)
 
 put-length : (p : ℕ) (bytes listing : List ℕ) → p + length bytes ≤ length listing → length (put p bytes listing) ≡ length listing

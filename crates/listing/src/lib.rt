@@ -10,6 +10,7 @@ use fresh::write_fresh;
 pub use record::Listed;
 use record::RECORD_SIZE;
 pub use record::record_at;
+pub use record::write_long;
 use sheet::NODES;
 use sheet::PENDING_LIMIT;
 use sheet::WATCHED;

@@ -19,7 +19,7 @@ pub struct Listed {
 }
 
 // Writes a number of four bytes at a place, the low byte first.
-fn write_long(listing: &mut [u8], at: usize, n: u32)
+pub fn write_long(listing: &mut [u8], at: usize, n: u32)
     requires { ⌜ at + 4 ≤ length (now listing) ⌝ }
     ensures { λ _. ⌜ now (listing .exit) ≡ put at (longBytes n) (now (listing .entry)) ⌝ }
 {
@@ -50,15 +50,27 @@ pub(crate) fn write_end(listing: &mut [u8], n: usize, end: u32)
     write_long(listing, RECORD_SIZE * n + 6, end);
 }
 
-// The number of four bytes at a place of a record, whose number has 32 bits.
+// The number of four bytes, the low byte first.
+fn long_of(a: u8, b: u8, c: u8, d: u8) -> u32
+    ensures { λ r. ⌜ r ≡ a + 256 * b + 65536 * c + 16777216 * d ⌝ }
+{
+    (a as u32) + 256 * (b as u32) + 65536 * (c as u32) + 16777216 * (d as u32)
+}
+
+// The number of four bytes at a place of a record, whose number has 32 bits. Within the listing they are read at once.
 fn long(s: &[u8], p: usize) -> u32
     requires { ⌜ p < recordSize * 2 ^ 32 ⌝ }
     ensures { λ r. ⌜ r ≡ longAt (now (s .entry)) p ⌝ }
 {
-    (sheet::byte(s, p) as u32)
-        + 256 * (sheet::byte(s, p + 1) as u32)
-        + 65536 * (sheet::byte(s, p + 2) as u32)
-        + 16777216 * (sheet::byte(s, p + 3) as u32)
+    if p + 4 <= s.len() {
+        return long_of(s[p], s[p + 1], s[p + 2], s[p + 3]);
+    }
+    long_of(
+        sheet::byte(s, p),
+        sheet::byte(s, p + 1),
+        sheet::byte(s, p + 2),
+        sheet::byte(s, p + 3),
+    )
 }
 
 // Record number i of the listing, and zeros past its end.

@@ -3,6 +3,7 @@
 use lent::put;
 use listing::Listed;
 use listing::record_at;
+use listing::write_long;
 use sheet::Answer;
 ghost use mathlib.Core.List.{List};
 ghost use mathlib.Core.Path.{_≡_};
@@ -69,10 +70,15 @@ fn count_pulses(listing: &[u8], n: u32, horizon: u32, width: u32) -> u32
     count
 }
 
-// Puts a number of four bytes, the low byte first.
+// Puts a number of four bytes, the low byte first. Where there is room for all of them they are written at once.
 fn put_long(report: &mut [u8], at: usize, n: u32) -> usize
     ensures { λ r. ⌜ Prints (longBytes n) (now (report .entry)) at (now (report .exit)) r ⌝ }
 {
+    let room = report.len();
+    if 4 <= room && at <= room - 4 {
+        write_long(report, at, n);
+        return at + 4;
+    }
     let second = put(report, at, (n % 256) as u8);
     let third = put(report, second, (n / 256 % 256) as u8);
     let fourth = put(report, third, (n / 65536 % 256) as u8);
