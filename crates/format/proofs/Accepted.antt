@@ -5,7 +5,7 @@ use lib.ListN.{length}
 use mathlib.Core.Bool.{Bool, true, false, false≢true}
 use mathlib.Core.List.{List}
 use mathlib.Core.Logic.{_⊎_, inl, inr, Dec·not-not}
-use mathlib.Core.Path.{_≡_, refl, sym, ap, _∙_, subst, subst₂}
+use mathlib.Core.Path.{_≡_, refl, sym, _∙_, subst, subst₂}
 use native.Mathlib.Decide.{ℕ-discrete}
 use native.Mathlib.Nat.{lt-of-not-le, not-le-of-lt, le-antisymm, le-refl, le-of-eq, le-trans, mul-le-mul-left, mul-suc}
 use native.Mathlib.Omega.{arith}
@@ -15,12 +15,12 @@ use Rattle.sheet.specs.declared.Edition.{Edition}
 use Rattle.sheet.specs.Limits.{inputByte, lastValue}
 use Rattle.sheet.specs.Outcome.{finished}
 use Rattle.sheet.specs.Bytes.{wordAt}
-use Rattle.sheet.specs.Sheet.{Sheet, nodeCount, moduleCount, moduleOf, outputOf, eventCount, eventOf, watchedCount, watchedNode}
+use Rattle.sheet.specs.Sheet.{Sheet, nodeCount, moduleCount, moduleOf, eventCount, eventOf, watchedCount, watchedNode}
 use Rattle.sheet.specs.Layout.{countSize, nodesCounted, nodeAt, modulesCounted, moduleAt, eventsCounted, eventAt, watchedPlace, watchedCounted, watchedAt, sheetEnd, sheetOf}
 use Rattle.sheet.specs.Wiring.{isInput, drivenAtStart}
 use Rattle.sheet.specs.Refusal.{key, checkedBy, checked, checkedStrictly}
 use Rattle.format.specs.Accepted.{Driven, Input, SoundModule, SoundEvent, Accepted, Known, the-first, the-second, AcceptedIn, DrivenAtStart, StrictlyAcceptedIn}
-use Rattle.format.specs.Condition.{Count, of-nodes, of-modules, of-drive, of-watched, Part, a-count, a-node, a-module, an-event, a-watched, Miswired, output-no-node, input-no-node, unused-not-0, NotAbove, not-above, ConditionBy, ends-inside, outside-range, byte-above, kind-above, parameter-not-allowed, wrong-wiring, delay-above, already-driven, driven-or-not, tick-above, not-an-input, value-above, not-above-before, no-first-event, wrong-watched, left-over, on-loop}
+use Rattle.format.specs.Condition.{Count, of-nodes, of-modules, of-drive, of-watched, Part, a-count, a-node, a-module, an-event, a-watched, Miswired, output-no-node, input-no-node, unused-not-0, NotAbove, not-above, ConditionBy, ends-inside, outside-range, byte-above, kind-above, parameter-not-allowed, wrong-wiring, delay-above, driven-or-not, tick-above, not-an-input, value-above, not-above-before, no-first-event, wrong-watched, left-over, on-loop}
 use Rattle.sheet.proofs.Tests.{decided, at-most}
 use Rattle.sheet.proofs.Parts.{node-count, node-byte, module-count, module-of, event-count, event-of, watched-count, watched-node}
 use Rattle.format.proofs.Condition.{tells-input, tells-at-start}
@@ -109,12 +109,6 @@ module _ (E : Edition) (s : List ℕ) where
     sound-modules : (m : ℕ) → m < moduleCount S → SoundModule (nodeCount S) (moduleOf S m)
     sound-modules m h = subst₂ SoundModule (sym (node-count E s)) (sym (module-of E s m (listed-module h))) (module-sound m (listed-module h))
 
-    drivers : (a b : ℕ) → a < modulesCounted s → b < modulesCounted s → moduleAt E s a .output ≡ moduleAt E s b .output → a ≡ b
-    drivers a b i j e = omega (arith, at-most (λ l. none _ _ (already-driven b j a l e)), at-most (λ l. none _ _ (already-driven a i b l (sym e))))
-
-    output-at : (m : ℕ) → m < moduleCount S → outputOf S m ≡ moduleAt E s m .output
-    output-at m h = ap (λ r. r .output) (module-of E s m (listed-module h))
-
     events-rise : (k : ℕ) → suc k < eventCount S → key (eventOf S k) < key (eventOf S (suc k))
     events-rise k h =
         subst₂ (λ a b. key a < key b) (sym (event-of E s k (omega (arith, listed-event h)))) (sym (event-of E s (suc k) (listed-event h)))
@@ -149,7 +143,6 @@ module _ (E : Edition) (s : List ℕ) where
           sound-modules = sound-modules;
           sound-events = λ k h. rw (event-of E s k (listed-event h)) (event-sound k (listed-event h));
           watched-nodes = λ k h. subst₂ _<_ (sym (watched-node E s k (listed-watched h))) (sym (node-count E s)) (lt-of-not-le (λ c. none _ _ (wrong-watched k (listed-watched h) (inl c))));
-          one-driver = λ a b i j e. drivers a b (listed-module i) (listed-module j) (sym (output-at a i) ∙ e ∙ output-at b j);
           initial-values = λ v h d. rw (node-byte E s v (node h)) (driven-byte v (node h) d);
           inputs = λ v i. node-byte E s v (node (i .node)) ∙ input-at v i;
           drive-rises = rises (λ k. key (eventOf S k)) (eventCount S) events-rise;
@@ -211,15 +204,6 @@ module _ (E : Edition) (s : List ℕ) (a : AcceptedIn E s) where
   started v h (inl c) = omega (arith, a′ .initial-values v (rw (node-count E s) h) (c .0), node-byte E s v h, c .1)
   started v h (inr c) = omega (arith, a′ .inputs v (record { node = rw (node-count E s) h; undriven = c .0 }), node-byte E s v h, c .1)
 
-  twice : (m b : ℕ) → m < modulesCounted s → b < m → moduleAt E s b .output ≡ moduleAt E s m .output → ⊥
-  twice m b h l c = omega (arith, l, a′ .one-driver b m (rw (module-count E s) j) (rw (module-count E s) h) (output b j ∙ c ∙ sym (output m h)))
-    where
-      j : b < modulesCounted s
-      j = omega arith
-
-      output : (i : ℕ) → i < modulesCounted s → outputOf S′ i ≡ moduleAt E s i .output
-      output i k = ap (λ r. r .output) (module-of E s i k)
-
   -- in a strict check, with the inputs' first events
   refuted : {strict : Bool} → (strict ≡ true → (v : ℕ) → Input S′ v → DrivenAtStart S′ v) → (n p : ℕ) → ConditionBy strict E s n p → ⊥
   refuted first n p (ends-inside part h) = not-le-of-lt h (le-trans (ends part) (le-of-eq (sym (a .whole))))
@@ -230,7 +214,6 @@ module _ (E : Edition) (s : List ℕ) (a : AcceptedIn E s) where
   refuted first n p (parameter-not-allowed m h c) = not-le-of-lt c (sound m h .parameter)
   refuted first n p (wrong-wiring m h c) = wired m h c
   refuted first n p (delay-above m h c) = not-le-of-lt c (sound m h .delay)
-  refuted first n p (already-driven m h b l c) = twice m b h l c
   refuted first n p (driven-or-not v h c) = started v h c
   refuted first n p (tick-above k h c) = not-le-of-lt c (sound-at k h .tick)
   refuted first n p (not-an-input k h c) = c (sound-at k h .node)

@@ -9,7 +9,7 @@ use Rattle.sheet.specs.declared.Edition.{Edition}
 use Rattle.sheet.specs.Outcome.{finished, refused}
 use Rattle.sheet.specs.Refusal.{Row, _at_when_, rows, checkedBy}
 use Rattle.format.specs.FirstMet.{FirstMet}
-use Rattle.format.specs.Condition.{ConditionBy, FirstConditionBy, ends-inside, outside-range, byte-above, kind-above, parameter-not-allowed, wrong-wiring, delay-above, already-driven, driven-or-not, tick-above, not-an-input, value-above, not-above-before, no-first-event, wrong-watched, left-over, on-loop}
+use Rattle.format.specs.Condition.{ConditionBy, FirstConditionBy, ends-inside, outside-range, byte-above, kind-above, parameter-not-allowed, wrong-wiring, delay-above, driven-or-not, tick-above, not-an-input, value-above, not-above-before, no-first-event, wrong-watched, left-over, on-loop}
 use Rattle.sheet.proofs.Tests.{Tells, fails}
 use Rattle.sheet.proofs.Rows.{first-clear, first-answers}
 use Rattle.format.proofs.FirstMet.{refused-iff}
@@ -67,7 +67,6 @@ numbered (kind-above _ _ _) = (lit≤ tt, lit≤ tt)
 numbered (parameter-not-allowed _ _ _) = (lit≤ tt, lit≤ tt)
 numbered (wrong-wiring _ _ _) = (lit≤ tt, lit≤ tt)
 numbered (delay-above _ _ _) = (lit≤ tt, lit≤ tt)
-numbered (already-driven _ _ _ _ _) = (lit≤ tt, lit≤ tt)
 numbered (driven-or-not _ _ _) = (lit≤ tt, lit≤ tt)
 numbered (tick-above _ _ _) = (lit≤ tt, lit≤ tt)
 numbered (not-an-input _ _ _) = (lit≤ tt, lit≤ tt)

@@ -3,21 +3,19 @@ use lib.Dec.{ltb, leb, eqb}
 use mathlib.Core.Bool.{Bool, true, false, _&&_, _||_, not, false≢true}
 use mathlib.Core.List.{List, _∷_, List·Memᴰ, List·Memᴰ·head, List·Memᴰ·tail, List·Memᴰ·cases-cons}
 use mathlib.Core.Logic.{_⊎_, inl, inr}
-use mathlib.Core.Path.{_≡_, refl, sym, ap, _∙_, subst}
-use native.Mathlib.Omega.{arith}
+use mathlib.Core.Path.{_≡_, refl, sym, _∙_, subst}
 use Prim.Native.Nat.{ℕ, zero, suc, _<_, _≤_}
 use Rattle.sheet.specs.declared.Edition.{Edition}
 use Rattle.sheet.specs.declared.Module.{Module}
 use Rattle.sheet.specs.Enumerate.{anyOf}
 use Rattle.sheet.specs.Limits.{inputByte}
 use Rattle.sheet.specs.Sheet.{Sheet, nodeCount, moduleCount, outputOf, eventCount, eventOf}
-use Rattle.sheet.specs.Layout.{nodesCounted, nodeAt, modulesCounted, moduleAt, eventAt, watchedAt, sheetOf}
-use Rattle.sheet.specs.Wiring.{usedInputs, unusedInputs, drivenBy, isDriven, isInput, drivenAtStart}
+use Rattle.sheet.specs.Layout.{nodesCounted, nodeAt, eventAt, watchedAt, sheetOf}
+use Rattle.sheet.specs.Wiring.{usedInputs, unusedInputs, isDriven, isInput, drivenAtStart}
 use Rattle.sheet.specs.Refusal.{miswired, key, notAboveEvent, notAboveWatched}
 use Rattle.format.specs.Accepted.{Driven, Input, DrivenAtStart}
 use Rattle.format.specs.Condition.{Miswired, output-no-node, input-no-node, unused-not-0, NotAbove, not-above}
 use Rattle.sheet.proofs.Tests.{Tells, tells-as, tells-lt, tells-le, tells-eq, tells-not, tells-and, tells-or, tells-below, tells-of}
-use Rattle.sheet.proofs.Parts.{module-of}
 
 pub tells-driven : (S : Sheet) (v : ℕ) → Tells (isDriven S v) (Driven S v)
 tells-driven S v =
@@ -80,15 +78,6 @@ module _ (E : Edition) (s : List ℕ) where
   tells-watched = tells-not-above (watchedAt E s) (notAboveWatched E s) refl (λ k. refl)
 
   -- Tests made of others, in the order of the table.
-  pub tells-earlier : (m : ℕ) → m < modulesCounted s
-      → Tells (drivenBy (sheetOf E s) m (moduleAt E s m .output)) ((earlier : ℕ) × (earlier < m) × (moduleAt E s earlier .output ≡ moduleAt E s m .output))
-  tells-earlier m h =
-      tells-as (tells-below m (λ a. eqb (outputOf (sheetOf E s) a) (moduleAt E s m .output)) (λ a. tells-eq (outputOf (sheetOf E s) a) (moduleAt E s m .output)))
-      (λ t. (t .0, t .1, sym (same (t .0) (t .1)) ∙ t .2), λ t. (t .0, t .1, same (t .0) (t .1) ∙ t .2))
-    where
-      same : (a : ℕ) → a < m → outputOf (sheetOf E s) a ≡ moduleAt E s a .output
-      same a l = ap (λ r. r .output) (module-of E s a (omega arith))
-
   pub tells-start : (v : ℕ) → Tells (isDriven (sheetOf E s) v && eqb (nodeAt s v) inputByte || not (isDriven (sheetOf E s) v) && ltb (nodeAt s v) inputByte)
       ((Driven (sheetOf E s) v × (nodeAt s v ≡ inputByte)) ⊎ ((Driven (sheetOf E s) v → ⊥) × nodeAt s v < inputByte))
   tells-start v =

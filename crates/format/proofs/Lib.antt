@@ -10,11 +10,12 @@ pub mod Places
 pub mod Table
 pub mod Checked
 pub mod Accepted
+pub mod MoreRows
 pub mod Strict
+pub mod OneDriver
 pub mod Loop
 pub mod Order
 pub mod OneToOne
-pub mod Undriven
 pub mod AllBytes
 pub mod EncodeSpan
 pub mod EncodeNumber
@@ -23,5 +24,6 @@ pub mod EncodeSection
 pub mod EncodeRead
 pub mod EncodePlaces
 pub mod EncodeBytes
+pub mod Longest
 pub mod Theorems
 pub mod Made

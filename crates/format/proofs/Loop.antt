@@ -32,7 +32,7 @@ module _ (strict : Bool) (E : Edition) (s : List ℕ) where
   unfolding bytesRows
   early =
       (count-early 0 leastNodes mostNodes then all-each (nodesCounted s) (nodeRows s) (λ v h. lit< tt and lit< tt and end))
-      then (count-early (modulesPlace s) 0 mostModules then all-each (modulesCounted s) (moduleRows E s) (λ m h. lit< tt and lit< tt and lit< tt and lit< tt and lit< tt and lit< tt and end))
+      then (count-early (modulesPlace s) 0 mostModules then all-each (modulesCounted s) (moduleRows E s) (λ m h. lit< tt and lit< tt and lit< tt and lit< tt and lit< tt and end))
       then all-each (nodesCounted s) (startRows E s) (λ v h. lit< tt and end)
       then (count-early (drivePlace E s) 0 mostEvents then all-each (eventsCounted E s) (eventRows E s) (λ e h. lit< tt and lit< tt and lit< tt and lit< tt and lit< tt and end))
       then all-where strict (each (nodesCounted s) (firstEventRows E s)) (λ is. all-each (nodesCounted s) (firstEventRows E s) (λ v h. lit< tt and end))

@@ -8,7 +8,7 @@ use native.Mathlib.Omega.{arith}
 use Prim.Native.Nat.{ℕ, zero, suc, _+_, _*_, _<_, _≤_}
 use Rattle.sheet.specs.declared.Edition.{Edition}
 use Rattle.sheet.specs.Limits.{leastNodes, mostNodes, mostModules, mostEvents, mostWatched}
-use Rattle.sheet.specs.Layout.{countSize, eventSize, modulesPlace, modulePlace, drivePlace, eventPlace, watchedPlace, watchPlace, sheetEnd}
+use Rattle.sheet.specs.Layout.{countSize, eventSize, modulesPlace, drivePlace, eventPlace, watchedPlace, watchPlace, sheetEnd}
 use Rattle.sheet.proofs.Tests.{at-most}
 use Rattle.format.specs.Condition.{Count, of-nodes, of-modules, of-drive, of-watched, Part, a-count, a-node, a-module, an-event, a-watched}
 
@@ -80,9 +80,6 @@ pub same-range : {E : Edition} {s : List ℕ} {p a b c d : ℕ} → Count E s p 
 same-range a b = same-value (range-lies a) (range-lies b)
 
 -- a record's number in its section
-pub same-module : (E : Edition) (s : List ℕ) → 0 < E .size → (a b : ℕ) → modulePlace E s a ≡ modulePlace E s b → a ≡ b
-same-module E s some a b e = omega (arith, at-most (λ l. not-le-of-lt (record-before E some b a l) (omega arith)), at-most (λ l. not-le-of-lt (record-before E some a b l) (omega arith)))
-
 pub same-event : (E : Edition) (s : List ℕ) (a b : ℕ) → eventPlace E s a ≡ eventPlace E s b → a ≡ b
 same-event E s a b e = omega arith
 

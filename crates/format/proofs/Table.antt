@@ -11,23 +11,19 @@ use Rattle.sheet.specs.declared.Edition.{Edition}
 use Rattle.sheet.specs.Enumerate.{each}
 use Rattle.sheet.specs.Limits.{inputByte, lastValue, longestDelay, lastTick}
 use Rattle.sheet.specs.Sheet.{nodeCount}
-use Rattle.sheet.specs.Layout.{nodesCounted, nodeAt, modulesCounted, modulePlace, moduleRecord, moduleAt, eventsCounted, eventPlace, eventRecord, eventAt, watchedCounted, watchPlace, watchedAt, sheetEnd, sheetOf}
+use Rattle.sheet.specs.Layout.{nodesCounted, nodeAt, modulesCounted, moduleRecord, moduleAt, eventsCounted, eventPlace, eventRecord, eventAt, watchedCounted, watchPlace, watchedAt, sheetEnd, sheetOf}
 use Rattle.sheet.specs.Wiring.{isInput}
 use Rattle.sheet.specs.Loop.{OnLoop}
 use Rattle.sheet.specs.Refusal.{Row, _at_when_, outside, greatestParameter, key, countRows, nodeRows, moduleRows, startRows, eventRows, firstEventRows, firstEventsSection, watchedRows, leftOverRows, loopRows, bytesRows, rows}
 use Rattle.format.specs.Accepted.{Driven, Input, DrivenAtStart}
-use Rattle.format.specs.Condition.{Count, of-nodes, of-modules, of-drive, of-watched, Part, a-count, a-node, a-module, an-event, a-watched, Miswired, NotAbove, ConditionBy, ends-inside, outside-range, byte-above, kind-above, parameter-not-allowed, wrong-wiring, delay-above, already-driven, driven-or-not, tick-above, not-an-input, value-above, not-above-before, no-first-event, wrong-watched, left-over, on-loop}
+use Rattle.format.specs.Condition.{Count, of-nodes, of-modules, of-drive, of-watched, Part, a-count, a-node, a-module, an-event, a-watched, Miswired, NotAbove, ConditionBy, ends-inside, outside-range, byte-above, kind-above, parameter-not-allowed, wrong-wiring, delay-above, driven-or-not, tick-above, not-an-input, value-above, not-above-before, no-first-event, wrong-watched, left-over, on-loop}
 use Rattle.sheet.proofs.Tests.{Tells, tells-as, tells-lt, tells-not, tells-outside}
 use Rattle.sheet.proofs.Parts.{node-count}
 use Rattle.sheet.proofs.Rows.{All, all-nil, _and_, _then_, all-each, all-where}
 use Rattle.format.proofs.Sections.{in-count, in-node, in-module, in-event, in-watched-node, in-start, in-first-event, in-left-over, in-bytes, in-loop}
-use Rattle.format.proofs.Condition.{tells-input, tells-miswired, tells-earlier, tells-start, tells-event, tells-first-event, tells-wrong-watched}
+use Rattle.format.proofs.Condition.{tells-input, tells-miswired, tells-start, tells-event, tells-first-event, tells-wrong-watched}
 use Rattle.format.proofs.Chains.{loop-node, loop-test}
-use Rattle.format.proofs.Places.{same-size, same-range, same-module, same-event, same-watched}
-
--- the output is driven by an earlier record
-abbrev Earlier : Edition → List ℕ → ℕ → Type 0
-Earlier E s m = (a : ℕ) × (a < m) × (moduleAt E s a .output ≡ moduleAt E s m .output)
+use Rattle.format.proofs.Places.{same-size, same-range, same-event, same-watched}
 
 -- no such node, or not above the one before
 abbrev WrongWatched : Edition → List ℕ → ℕ → Type 0
@@ -46,7 +42,7 @@ Says strict E s n p =
     ∷ (greatestParameter (moduleRecord E s p .kind) < moduleRecord E s p .parameter)
     ∷ Miswired (nodesCounted s) (moduleRecord E s p)
     ∷ (longestDelay < moduleRecord E s p .delay)
-    ∷ ((m : ℕ) × (modulePlace E s m ≡ p) × Earlier E s m)
+    ∷ ⊥
     ∷ ((Driven (sheetOf E s) p × (nodeAt s p ≡ inputByte)) ⊎ ((Driven (sheetOf E s) p → ⊥) × nodeAt s p < inputByte))
     ∷ (lastTick < eventRecord s p .tick)
     ∷ (Input (sheetOf E s) (eventRecord s p .node) → ⊥)
@@ -68,7 +64,6 @@ says (kind-above m h c) = c
 says (parameter-not-allowed m h c) = c
 says (wrong-wiring m h c) = c
 says (delay-above m h c) = c
-says (already-driven m h a l c) = (m, refl, (a, l, c))
 says (driven-or-not v h c) = c
 says (tick-above e h c) = c
 says (not-an-input e h c) = c
@@ -78,6 +73,10 @@ says (no-first-event is v i c) = (is, i, c)
 says (wrong-watched k h c) = (k, refl, c)
 says (left-over c) = c
 says (on-loop v c) = c
+
+-- no condition is 9's
+pub none-at-9 : {strict : Bool} {E : Edition} {s : List ℕ} {p : ℕ} → ConditionBy strict E s 9 p → ⊥
+none-at-9 c = says c
 
 -- the condition of 15 is a strict check's alone
 pub strict-at-15 : {strict : Bool} {E : Edition} {s : List ℕ} {p : ℕ} → ConditionBy strict E s 15 p → strict ≡ true
@@ -129,7 +128,6 @@ module _ (strict : Bool) (E : Edition) (some : 0 < E .size) (s : List ℕ) where
       and by-order (greatestParameter (moduleAt E s m .kind)) (moduleAt E s m .parameter) (parameter-not-allowed m h) says
       and tells-as (tells-miswired (nodesCounted s) (moduleAt E s m)) (wrong-wiring m h, says)
       and by-order longestDelay (moduleAt E s m .delay) (delay-above m h) says
-      and tells-as (tells-earlier E s m h) (λ e. already-driven m h (e .0) (e .1) (e .2), λ c. of-this (Earlier E s) (modulePlace E s) (same-module E s some) m (says c))
       and all-nil (Told strict E s)
 
   start-told : (v : ℕ) → v < nodesCounted s → All (Told strict E s) (startRows E s v)
@@ -197,7 +195,6 @@ module _ (strict : Bool) (E : Edition) (some : 0 < E .size) (s : List ℕ) where
   stands (parameter-not-allowed m h c) = of-bytes (in-module strict E s m h (later (later here)))
   stands (wrong-wiring m h c) = of-bytes (in-module strict E s m h (later (later (later here))))
   stands (delay-above m h c) = of-bytes (in-module strict E s m h (later (later (later (later here)))))
-  stands (already-driven m h a l c) = of-bytes (in-module strict E s m h (later (later (later (later (later here))))))
   stands (driven-or-not v h c) = of-bytes (in-start strict E s v h here)
   stands (tick-above e h c) = of-bytes (in-event strict E s e h (later here))
   stands (not-an-input e h c) = of-bytes (in-event strict E s e h (later (later here)))

@@ -20,15 +20,15 @@ use Rattle.format.specs.Accepted.{Before, Accepted, Known, the-first, th
 use Rattle.format.specs.Encode.{encode, Bytes, Encodable, OneByteEach}
 use Rattle.format.specs.Condition.{ConditionBy, FirstConditionBy}
 use Rattle.format.proofs.Checked.{answers, finished-iff, refused-first, refused-met}
-use Rattle.format.proofs.Table.{strict-at-15}
-use Rattle.format.proofs.Accepted.{some-size, few-bytes, accepted, conversely, strictly, strictly-conversely}
+use Rattle.format.proofs.Table.{none-at-9, strict-at-15}
+use Rattle.format.proofs.Accepted.{some-size, accepted, conversely, strictly, strictly-conversely}
 use Rattle.format.proofs.Strict.{same-or-15}
 use Rattle.format.proofs.Loop.{loop-refused}
 use Rattle.format.proofs.Order.{drive-order}
-use Rattle.format.proofs.Undriven.{fewer-modules}
 use Rattle.format.proofs.EncodePlaces.{read-encode}
 use Rattle.format.proofs.EncodeRead.{reading-encoded, encodable, one-byte-each}
 use Rattle.format.proofs.EncodeBytes.{encode-bytes}
+use Rattle.format.proofs.Longest.{full-accepted}
 
 -- (a) Each refusal is given under its stated condition and under no other: a check, strict or not, refuses with the number and place of the first condition met,
 -- front to back, finishes where none is met, and answers nothing else.
@@ -41,6 +41,10 @@ no-refusal strict {E} known = finished-iff strict E (some-size known)
 pub no-other-answer : (strict : Bool) {E : Edition} → Known E → (s : List ℕ) → (checkedBy strict E s ≡ finished 0) ⊎ ((n : ℕ) × (p : ℕ) × (2 ≤ n) × (n ≤ 18) × (checkedBy strict E s ≡ refused n p 0))
 no-other-answer strict {E} known = answers strict E (some-size known)
 
+-- Refusal 9 is given by no check: a node may have several drivers, as document 02's W-209 has it.
+pub never-9 : (strict : Bool) {E : Edition} → Known E → (s : List ℕ) (p : ℕ) → checkedBy strict E s ≡ refused 9 p 0 → ⊥
+never-9 strict {E} known s p e = none-at-9 (refused-met strict E (some-size known) s 9 p e)
+
 -- Refusal 15 is a strict check's alone.
 pub never-15 : {E : Edition} → Known E → (s : List ℕ) (p : ℕ) → checked E s ≡ refused 15 p 0 → ⊥
 never-15 {E} known s p e = false≢true (strict-at-15 (refused-met false E (some-size known) s 15 p e))
@@ -49,7 +53,8 @@ never-15 {E} known s p e = false≢true (strict-at-15 (refused-met false E (some
 pub zero-delay-loop : (strict : Bool) (E : Edition) (s : List ℕ) (v : ℕ) → (checkedBy strict E s ≡ refused 18 v 0) ↔ ((first (bytesRows strict E s) ≡ finished 0) × LeastOnLoop (sheetOf E s) v)
 zero-delay-loop = loop-refused
 
--- (b) A check finishes exactly on the sheets that document 01 accepts, with inputs that start unknown as document 02's W-203 has it.
+-- (b) A check finishes exactly on the sheets that document 01 accepts, with inputs that start unknown and nodes of several drivers as document
+-- 02's W-203 and W-209 have it.
 pub accepts : {E : Edition} → Known E → (s : List ℕ) → (checked E s ≡ finished 0) ↔ AcceptedIn E s
 accepts {E} known s = (accepted E known s, conversely E known s)
 
@@ -77,32 +82,27 @@ read-as-written {E} known sheet fits small = (read-encode known sheet fits, enco
 pub read-fits : {E : Edition} → Known E → (s : List ℕ) → Bytes s → Encodable E (sheetOf E s) × OneByteEach (sheetOf E s)
 read-fits known s bytes = (encodable known s bytes, one-byte-each known s bytes)
 
--- 256 modules leave no input and so no event: with events there are 255 at most.
-pub longest : {E : Edition} → Known E → (s : List ℕ) → checked E s ≡ finished 0 → length s ≤ 6664 + E .size * 255
-longest {E} known s c = by (ltb 0 (eventCount (sheetOf E s))) refl
-  where
-    acc : AcceptedIn E s
-    acc = accepted E known s c
+-- An accepted sheet has at most as many bytes as the counts' ranges allow.
+pub longest : {E : Edition} → Known E → (s : List ℕ) → checked E s ≡ finished 0 → length s ≤ 6664 + E .size * 256
+longest {E} known s c =
+    let acc = accepted E known s c in
+    let a = acc .sheet in
+    let few : modulesCounted s ≤ 256 = omega (arith, a .modules, module-count E s) in
+    omega (arith, acc .whole, a .nodes, node-count E s, mul-le-mul-left (E .size) few, a .events, event-count E s, a .watched, watched-count E s)
 
-    a : Accepted (sheetOf E s)
-    a = acc .sheet
-
-    by : (b : Bool) → ltb 0 (eventCount (sheetOf E s)) ≡ b → length s ≤ 6664 + E .size * 255
-    by true e =
-        let fewer : modulesCounted s ≤ 255 = omega (arith, a .nodes, fewer-modules (sheetOf E s) a (ltb-true 0 (eventCount (sheetOf E s)) e), module-count E s) in
-        omega (arith, acc .whole, a .nodes, node-count E s, mul-le-mul-left (E .size) fewer, a .events, event-count E s, a .watched, watched-count E s)
-    by false e =
-        let none = ltb-false 0 (eventCount (sheetOf E s)) e in
-        let few : modulesCounted s ≤ 256 = omega (arith, a .modules, module-count E s) in
-        omega (arith, acc .whole, a .nodes, node-count E s, mul-le-mul-left (E .size) few, few-bytes known, none, event-count E s, a .watched, watched-count E s)
-
--- Document 01, "The program", gives 8,456 bytes, as many as the counts' ranges allow; the second edition allows 256 more. No accepted
--- sheet has more than 8,449, and 8,704.
-pub longest-sheet : (s : List ℕ) → checked firstEdition s ≡ finished 0 → length s ≤ 8449
+-- Document 01, "The program", gives 8,456 bytes; the second edition allows 256 more.
+pub longest-sheet : (s : List ℕ) → checked firstEdition s ≡ finished 0 → length s ≤ 8456
 longest-sheet = longest the-first
 
-pub longest-sheet-2 : (s : List ℕ) → checked secondEdition s ≡ finished 0 → length s ≤ 8704
+pub longest-sheet-2 : (s : List ℕ) → checked secondEdition s ≡ finished 0 → length s ≤ 8712
 longest-sheet-2 = longest the-second
+
+-- A sheet of that length is accepted, strictly too: 256 modules may drive 255 nodes and leave an input for the events.
+pub longest-accepted : (s : List ℕ) × Bytes s × (length s ≡ 8456) × (checkedStrictly firstEdition s ≡ finished 0)
+longest-accepted = full-accepted the-first
+
+pub longest-accepted-2 : (s : List ℕ) × Bytes s × (length s ≡ 8712) × (checkedStrictly secondEdition s ≡ finished 0)
+longest-accepted-2 = full-accepted the-second
 
 -- A sheet of the first edition is one without third inputs.
 pub no-third : (s : List ℕ) (m : ℕ) → moduleOf (sheetOf firstEdition s) m .third ≡ 0

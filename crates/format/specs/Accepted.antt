@@ -1,5 +1,6 @@
 -- What holds of a sheet that a check does not refuse, whatever the order in which it is read:
--- all that document 01's refusals 2 to 18 rule out, 15 in a strict check alone, as document 02's W-203 has it.
+-- all that document 01's refusals 2 to 18 rule out, 15 in a strict check alone, as document 02's W-203 has it, and without 9, as its
+-- W-209 has it.
 use mathlib.Core.List.{List, List·Memᴰ}
 use mathlib.Core.Logic.{_⊎_}
 use mathlib.Core.Path.{_≡_}
@@ -58,8 +59,6 @@ pub record Accepted (S : Sheet) : Type 0 where
   pub sound-modules : (m : ℕ) → m < moduleCount S → SoundModule (nodeCount S) (moduleOf S m)
   pub sound-events : (e : ℕ) → e < eventCount S → SoundEvent S (eventOf S e)
   pub watched-nodes : (k : ℕ) → k < watchedCount S → watchedNode S k < nodeCount S
-  -- one driver a node
-  pub one-driver : (a b : ℕ) → a < moduleCount S → b < moduleCount S → outputOf S a ≡ outputOf S b → a ≡ b
   -- driven nodes have an initial value, and inputs have 4
   pub initial-values : (v : ℕ) → v < nodeCount S → Driven S v → nodeByte S v ≤ lastValue
   pub inputs : (v : ℕ) → Input S v → nodeByte S v ≡ inputByte

@@ -1,4 +1,4 @@
--- Document 01, "Where each refusal is met", with document 02's W-203: the table of refusals 2 to 18 as propositions.
+-- Document 01, "Where each refusal is met", with document 02's W-203 and W-209: the table of refusals 2 to 18 as propositions.
 use mathlib.Core.Bool.{Bool, true, false}
 use mathlib.Core.List.{List, _∷_, _++_, List·Memᴰ}
 use mathlib.Core.Logic.{_⊎_}
@@ -52,15 +52,12 @@ module _ (strict : Bool) (e : Edition) (s : List ℕ) where
     outside-range : {p least greatest : ℕ} → Count e s p least greatest → wordAt s p < least ⊎ greatest < wordAt s p → ConditionBy 3 p
     -- a node: byte above 4
     byte-above : (v : ℕ) → v < nodesCounted s → inputByte < nodeAt s v → ConditionBy 4 (nodePlace v)
-    -- a module: kind above the edition's greatest; parameter not allowed; wrong wiring; delay above 10,000; output already driven by an
-    -- earlier record
+    -- a module: kind above the edition's greatest; parameter not allowed; wrong wiring; delay above 10,000
     kind-above : (m : ℕ) → m < modulesCounted s → e .greatest < moduleAt e s m .kind → ConditionBy 5 (modulePlace e s m)
     parameter-not-allowed : (m : ℕ) → m < modulesCounted s → greatestParameter (moduleAt e s m .kind) < moduleAt e s m .parameter
         → ConditionBy 6 (modulePlace e s m)
     wrong-wiring : (m : ℕ) → m < modulesCounted s → Miswired (nodesCounted s) (moduleAt e s m) → ConditionBy 7 (modulePlace e s m)
     delay-above : (m : ℕ) → m < modulesCounted s → longestDelay < moduleAt e s m .delay → ConditionBy 8 (modulePlace e s m)
-    already-driven : (m : ℕ) → m < modulesCounted s → (earlier : ℕ) → earlier < m → moduleAt e s earlier .output ≡ moduleAt e s m .output
-        → ConditionBy 9 (modulePlace e s m)
     -- after the modules: driven node with byte 4, or undriven node with 0 to 3
     driven-or-not : (v : ℕ) → v < nodesCounted s
         → (Driven (sheetOf e s) v × (nodeAt s v ≡ inputByte)) ⊎ ((Driven (sheetOf e s) v → ⊥) × nodeAt s v < inputByte) → ConditionBy 10 v

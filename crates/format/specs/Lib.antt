@@ -4,3 +4,4 @@ pub mod Encode
 pub mod Made
 pub mod FirstMet
 pub mod Condition
+pub mod OneDriver

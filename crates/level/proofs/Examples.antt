@@ -4,7 +4,7 @@ use mathlib.Core.List.{List, [], _∷_, List·Memᴰ·not-nil, List·Memᴰ·cas
 use mathlib.Core.Logic.{⊎-elim}
 use lib.Dec.{T, eqb, eqb→eq}
 use lib.Ieee.Fits.{and-l, and-r}
-use Rattle.level.specs.Examples.{Example, Hold, gateExamples, startExamples}
+use Rattle.level.specs.Examples.{Example, Hold, gateExamples, startExamples, joinExamples}
 
 -- what is given and what is stated are the same
 abbrev pub right : Example → Bool
@@ -27,3 +27,6 @@ gate-examples = computed gateExamples tt
 
 pub start-examples : Hold startExamples
 start-examples = computed startExamples tt
+
+pub join-examples : Hold joinExamples
+join-examples = computed joinExamples tt

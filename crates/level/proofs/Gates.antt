@@ -31,6 +31,10 @@ pub values-map : (f : ℕ → ℕ) (l : List ℕ) → ((a : ℕ) → List·Mem�
 values-map f [] all = tt
 values-map f (a ∷ l) all = (all a (List·Memᴰ·head refl), values-map f l (λ b m. all b (List·Memᴰ·tail m)))
 
+pub values-all : (l : List ℕ) → ((a : ℕ) → List·Memᴰ a l → a < 4) → Values l
+values-all [] all = tt
+values-all (a ∷ l) all = (all a (List·Memᴰ·head refl), values-all l (λ b m. all b (List·Memᴰ·tail m)))
+
 -- the input at a place, X where there is none
 pub value-at : (l : List ℕ) (i : ℕ) → Values l → inputAt l i < 4
 value-at [] i v = omega arith

@@ -2,3 +2,4 @@
 pub mod Computed
 pub mod Examples
 pub mod Gates
+pub mod Join

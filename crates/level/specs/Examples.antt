@@ -1,11 +1,12 @@
 -- Document 01, "Examples": those marked * to be proved, as a table of a value and what the paper says it is. This part has the gates',
 -- the clocked inverter's as document 02's W-202 has it, at each clock, and those of W-205's gates of three inputs; and where kinds' tables
--- begin, which W-206 keeps.
+-- begin, which W-206 keeps; and W-209's joining.
 use mathlib.Core.List.{List, [], _∷_, List·Memᴰ}
 use mathlib.Core.Path.{_≡_}
 use Prim.Native.Nat.{ℕ}
 use Rattle.level.specs.Level.{low, high, unknown, none}
 use Rattle.level.specs.Gate.{nand, and, or, xor, inverter, clockedInverter, nor, multiplexer}
+use Rattle.level.specs.Join.{join, joined, joinedCounts}
 use Rattle.level.specs.Table.{startOf}
 
 -- a value that a definition gives, and the paper's
@@ -64,4 +65,26 @@ startExamples =
     ∷ is (startOf 0) 488
     ∷ is (startOf 9) 488
     ∷ is (startOf 16) 488
+    ∷ []
+
+-- Z yields, equal values stay, anything else is X; of lists, none is Z, and a clash is X whatever follows
+abbrev pub joinExamples : List Example
+joinExamples =
+    is (join none low) low
+    ∷ is (join high none) high
+    ∷ is (join unknown none) unknown
+    ∷ is (join none none) none
+    ∷ is (join low low) low
+    ∷ is (join high high) high
+    ∷ is (join unknown unknown) unknown
+    ∷ is (join low high) unknown
+    ∷ is (join high low) unknown
+    ∷ is (join low unknown) unknown
+    ∷ is (join unknown high) unknown
+    ∷ is (joined []) none
+    ∷ is (joined (none ∷ high ∷ none ∷ high ∷ [])) high
+    ∷ is (joined (low ∷ none ∷ high ∷ low ∷ [])) unknown
+    ∷ is (joinedCounts 0 2 0) high
+    ∷ is (joinedCounts 2 1 0) unknown
+    ∷ is (joinedCounts 0 0 0) none
     ∷ []

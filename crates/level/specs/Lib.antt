@@ -2,6 +2,7 @@
 pub mod Choice
 pub mod Level
 pub mod Gate
+pub mod Join
 pub mod Rule
 pub mod Kind
 pub mod Table

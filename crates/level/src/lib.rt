@@ -4,10 +4,11 @@ mod tables;
 use crate::tables::TABLES;
 ghost use mathlib.Core.Path.{_≡_};
 ghost use mathlib.Core.List.{List, [], _∷_};
-ghost use Prim.Native.Nat.{ℕ, _%_};
+ghost use Prim.Native.Nat.{ℕ, _%_, _<_};
 ghost use lib.ListN.{take};
 ghost use Rattle.level.specs.Level.{printed};
 ghost use Rattle.level.specs.Gate.{member};
+ghost use Rattle.level.specs.Join.{joinedCounts};
 ghost use Rattle.level.specs.Rule.{inputsOf, comesTo};
 ghost use Rattle.level.specs.Kind.{ruleOf};
 ghost use Rattle.level.specs.Table.{startOf, tables};
@@ -102,6 +103,25 @@ impl Level {
         } else {
             NO_TABLE
         }
+    }
+
+    // What the drivers of a node come to together, by how many of them give 0, 1 and X; the others give Z.
+    pub fn joined(zeros: u16, ones: u16, unknowns: u16) -> u8
+        ensures { λ r. ⌜ (r ≡ joinedCounts zeros ones unknowns) × (r < 4) ⌝ }
+    {
+        if 0 < unknowns {
+            return Level::UNKNOWN;
+        }
+        if 0 < zeros {
+            if 0 < ones {
+                return Level::UNKNOWN;
+            }
+            return Level::LOW;
+        }
+        if 0 < ones {
+            return Level::HIGH;
+        }
+        Level::NONE
     }
 
     // A constant, kind 0: its parameter, whatever the inputs and the value held.

@@ -96,7 +96,7 @@ pub fn load_values(nodes: [u8; NODES], n: usize, values: &mut [u8; NODES])
     }
 }
 
-// What the first n modules came to last is the value of their outputs.
+// What the first n modules give, or came to last, is the value of their outputs.
 pub fn load_last(
     records: [Module; MODULES],
     n: usize,

@@ -54,7 +54,7 @@ listStore =
     }
 
 abbrev start : State listStore
-start = record { values = 2 ∷ 2 ∷ []; last = 2 ∷ []; shown = 255 ∷ 255 ∷ []; starts = 56 ∷ []; pending = [] }
+start = record { values = 2 ∷ 2 ∷ []; given = 2 ∷ []; last = 2 ∷ []; shown = 255 ∷ 255 ∷ []; starts = 56 ∷ []; pending = [] }
 
 abbrev listedAt : ℕ → ℕ → ℕ → Record
 listedAt t v x = record { tick = t; node = v; value = x }

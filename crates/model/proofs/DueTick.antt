@@ -1,48 +1,51 @@
--- After the drive and the changes that are due, inputs and the outputs of delayed modules have their cells of the tick. A change that a delayed module's cells owe at the tick is held
--- with that cell's value; where none is owed the cell is the one before, or at first the initial value; and a due change of a node has its cell's value. Assumes nothing.
+-- After the drive and the changes that are due, inputs have their cells of the tick, delayed modules give what they contribute at it, and driven nodes the join of what is given. A change that
+-- a delayed module owes at the tick is held with its contribution; where none is owed the contribution is the one before, or at first the initial value. Assumes nothing.
 use borrow.Author.Tests.{ne-eqb}
-use lib.ListN.{length, getD}
-use mathlib.Core.List.{List, [], _∷_, List·Memᴰ}
+use lib.ListN.{getD}
+use mathlib.Core.List.{List, [], _∷_, List·Memᴰ, List·Memᴰ·head, List·Memᴰ·tail}
 use mathlib.Core.Logic.{_⊎_, inl, inr}
 use mathlib.Core.Path.{_≡_, refl, sym, ap, _∙_}
 use native.Mathlib.Decide.{ℕ-discrete}
 use native.Mathlib.Omega.{arith}
-use Prim.Native.Nat.{ℕ, zero, suc, _<_}
+use Prim.Native.Nat.{ℕ, zero, suc, _≤_, _<_}
 use Rattle.sheet.specs.declared.Module.{Module}
-use Rattle.sheet.specs.Limits.{inputByte}
 use Rattle.sheet.specs.Sheet.{Sheet, nodeCount, nodeByte, moduleCount}
 use Rattle.sheet.specs.WorkingOrder.{inWorkingOrder}
-use Rattle.format.specs.Accepted.{Input}
+use Rattle.format.specs.Accepted.{Driven}
 use Rattle.network.specs.Timeline.{Cells}
 use Rattle.model.specs.Change.{Change}
 use Rattle.model.specs.Store.{Store}
 use Rattle.model.specs.Drive.{driveTick}
-use Rattle.model.specs.Passes.{moduleIn, giveAll}
-use Rattle.model.specs.State.{State, delayedCount, firstValue}
-use Rattle.model.specs.Standing.{Standing, Owed, before, placed, changeAt}
-use Rattle.model.proofs.Puts.{Leveled, puts, puts-length, puts-levels, puts-at}
+use Rattle.model.specs.Passes.{Settled, giveAll}
+use Rattle.model.specs.State.{State, delayedCount}
+use Rattle.model.specs.Standing.{Standing, Owed, before, placed, givenBy, changeAt}
+use Rattle.model.proofs.Puts.{puts, puts-at}
 use Rattle.model.proofs.DelayedFirst.{delayed-first, delayed-listed}
-use Rattle.model.proofs.Setting.{Setting, module-at, is-driven, sound, initial-level, cell-level, early-cell}
+use Rattle.model.proofs.Setting.{Setting, given-level, early-given}
 use Rattle.model.proofs.DriveTick.{drive-length, drive-levels, drive-kept, driven-input}
+use Rattle.model.proofs.Present.{Present, one-given, joins-before}
 
--- changes are put at their modules' outputs
-abbrev outputIn : List Module → Change → ℕ
-outputIn modules x = moduleIn modules (x .position) .output
-
-gives : (modules : List Module) (xs : List Change) (values : List ℕ) → giveAll modules xs values ≡ puts (outputIn modules) (λ x. x .value) xs values
+-- changes are put at their modules' positions
+gives : (modules : List Module) (xs : List Change) (now : Settled) → giveAll modules xs now .given ≡ puts (λ x. x .position) (λ x. x .value) xs (now .given)
 unfolding giveAll
-gives modules [] values = refl
-gives modules (x ∷ xs) values = gives modules xs _
+gives modules [] now = refl
+gives modules (x ∷ xs) now = gives modules xs _
 
--- a delayed module's cell stands already, or it is owed
+all-given : {S : Sheet} {c : Cells} {horizon : ℕ} → Setting S c horizon → (t : ℕ) (xs : List Change) → ((x : Change) → List·Memᴰ x xs → (x .position < moduleCount S) × (x .value < 4))
+    → {now : Settled} → Present S c t now → Present S c t (giveAll (inWorkingOrder S) xs now)
+unfolding giveAll
+all-given G t [] all p = p
+all-given G t (x ∷ xs) all p =
+    let (h, l) = all x (List·Memᴰ·head refl) in
+    all-given G t xs (λ y m. all y (List·Memᴰ·tail m)) (one-given G t p (x .position) h (x .value) l)
+
+-- a delayed module's contribution stands already, or it is owed
 owed-now : {S : Sheet} {c : Cells} {horizon : ℕ} → Setting S c horizon → (k t : ℕ) → t < horizon → k < delayedCount S
-    → (before (λ u. c u (placed S k .output)) (firstValue S (placed S k .output)) t ≡ c t (placed S k .output)) ⊎ Owed S c horizon t k t
-owed-now {S} G k zero h l =
-    let b : k < moduleCount S = delayed-listed S k l in
-    inl (rw (ne-eqb (nodeByte S (placed S k .output)) inputByte (λ e. omega (arith, initial-level G k b))) (sym (early-cell G k b zero h (omega (arith, delayed-first S k b .0 l)))))
-owed-now {S} {c} {horizon} G k (suc t) h l = go (ℕ-discrete (c (suc t) (placed S k .output)) (c t (placed S k .output)))
+    → (before (givenBy S c k) (nodeByte S (placed S k .output)) t ≡ givenBy S c k t) ⊎ Owed S c horizon t k t
+owed-now {S} {c} G k zero h l = inl (sym (early-given S k c zero (omega (arith, delayed-first S k (delayed-listed S k l) .0 l))))
+owed-now {S} {c} {horizon} G k (suc t) h l = go (ℕ-discrete (givenBy S c k (suc t)) (givenBy S c k t))
   where
-    go : Dec (c (suc t) (placed S k .output) ≡ c t (placed S k .output)) → (c t (placed S k .output) ≡ c (suc t) (placed S k .output)) ⊎ Owed S c horizon (suc t) k (suc t)
+    go : Dec (givenBy S c k (suc t) ≡ givenBy S c k t) → (givenBy S c k t ≡ givenBy S c k (suc t)) ⊎ Owed S c horizon (suc t) k (suc t)
     go (yes e) = inl (sym e)
     go (no d) =
         inr (record {
@@ -51,62 +54,70 @@ owed-now {S} {c} {horizon} G k (suc t) h l = go (ℕ-discrete (c (suc t) (placed
           decided = omega (arith, delayed-first S k (delayed-listed S k l) .0 l);
           below = h;
           later = omega arith;
-          differs = rw (ne-eqb (c (suc t) (placed S k .output)) (c t (placed S k .output)) d) tt;
+          differs = rw (ne-eqb (givenBy S c k (suc t)) (givenBy S c k t) d) tt;
         })
 
--- the values after the drive and the due changes
-abbrev pub appliedIn : (store : Store) → Sheet → ℕ → State store → List ℕ
-appliedIn store S t st = giveAll (inWorkingOrder S) (store .due (st .pending) t) (driveTick (S .drive) t (st .values))
+-- what stands after the drive and the due changes
+abbrev pub appliedIn : (store : Store) → Sheet → ℕ → State store → Settled
+appliedIn store S t st = giveAll (inWorkingOrder S) (store .due (st .pending) t) (record { values = driveTick (S .drive) t (st .values); given = st .given })
 
 module _ {store : Store} {S : Sheet} {c : Cells} {horizon : ℕ} (G : Setting S c horizon) (t : ℕ) (below : t < horizon) (st : State store) (stands : Standing store S c horizon t st) where
   abbrev dues : List Change
   dues = store .due (st .pending) t
 
-  abbrev drove : List ℕ
-  drove = driveTick (S .drive) t (st .values)
+  abbrev drove : Settled
+  drove = record { values = driveTick (S .drive) t (st .values); given = st .given }
 
-  -- a due change is of a delayed module, and has the cell's value
+  -- a due change is of a delayed module, and has its contribution
   due : (x : Change) → List·Memᴰ x dues → (k : ℕ) × (k < delayedCount S) × (x ≡ changeAt S c k t)
   due x m =
       let (i, d) = store .tells-due (st .pending) (stands .held) t (stands .holds) x .0 m in
       let (k, u, w, e) = stands .owing .owed x i in
       (k, w .delayed, e ∙ ap (changeAt S c k) (sym (ap (λ x. x .due) e) ∙ d))
 
-  due-output : (k : ℕ) → k < delayedCount S → outputIn (inWorkingOrder S) (changeAt S c k t) ≡ placed S k .output
-  due-output k h = ap (λ m. m .output) (module-at S k (delayed-listed S k h))
+  driven-node : (v : ℕ) → Driven S v → v < nodeCount S
+  driven-node v d = omega (arith, d .output, G .accepted .sound-modules (d .driver) (d .listed) .output)
 
-  applied-puts : appliedIn store S t st ≡ puts (outputIn (inWorkingOrder S)) (λ x. x .value) dues drove
-  applied-puts = gives (inWorkingOrder S) dues drove
+  -- after the drive
+  drove-present : Present S c t drove
+  drove-present =
+      record {
+        values-size = drive-length S (G .accepted) t (st .values) ∙ stands .values-size;
+        levels = drive-levels S (G .accepted) t (st .values) (stands .levels);
+        given-size = stands .given-size;
+        given-levels = stands .given-levels;
+        inputs = λ v i. driven-input G v i t below (st .values) (stands .values-size) (stands .values v (i .node));
+        joins = λ v d.
+            let node = driven-node v d in
+            drive-kept S (G .accepted) t (st .values) (stands .values-size) v node d
+            ∙ stands .values v node
+            ∙ joins-before G t v (omega arith) d node (st .given) (stands .given);
+      }
 
-  pub applied-size : length (appliedIn store S t st) ≡ 256
-  applied-size = ap length applied-puts ∙ puts-length _ _ dues drove ∙ drive-length S (G .accepted) t (st .values) ∙ stands .values-size
+  pub applied-present : Present S c t (appliedIn store S t st)
+  applied-present =
+      all-given G t dues
+      (λ x m. let (k, h, e) = due x m in let l = delayed-listed S k h in (omega (arith, ap (λ x. x .position) e), omega (arith, ap (λ x. x .value) e, given-level G t k below l)))
+      drove-present
 
-  pub applied-levels : Leveled (appliedIn store S t st)
-  applied-levels =
-      rw applied-puts
-      (puts-levels _ (λ x. x .value) dues drove
-      (λ x m. let (k, h, e) = due x m in omega (arith, ap (λ x. x .value) e, cell-level G t (placed S k .output) below (sound G k (delayed-listed S k h) .output)))
-      (drive-levels S (G .accepted) t (st .values) (stands .levels)))
+  -- what is given after the due changes: what all that are due give there, where one is due or it stood there
+  applied-at : (k w : ℕ) → k < moduleCount S → ((x : Change) → List·Memᴰ x dues → x .position ≡ k → x .value ≡ w)
+      → (getD (st .given) k 0 ≡ w) ⊎ ((x : Change) × List·Memᴰ x dues × (x .position ≡ k)) → getD (appliedIn store S t st .given) k 0 ≡ w
+  applied-at k w h all some =
+      rw (gives (inWorkingOrder S) dues drove)
+      (puts-at (λ x. x .position) (λ x. x .value) k w dues (st .given) (omega (arith, stands .given-size)) all some)
 
-  -- a node has its cell, if it stood there or a change of it is due
-  applied-at : (v : ℕ) → v < nodeCount S → (getD drove v 0 ≡ c t v) ⊎ ((x : Change) × List·Memᴰ x dues × (outputIn (inWorkingOrder S) x ≡ v)) → getD (appliedIn store S t st) v 0 ≡ c t v
-  applied-at v h some =
-      rw applied-puts
-      (puts-at (outputIn (inWorkingOrder S)) (λ x. x .value) v (c t v) dues drove (omega (arith, drive-length S (G .accepted) t (st .values), stands .values-size, G .accepted .nodes))
-      (λ x m o. let (k, l, e) = due x m in ap (λ x. x .value) e ∙ ap (c t) (sym (due-output k l) ∙ sym (ap (outputIn (inWorkingOrder S)) e) ∙ o)) some)
-
-  pub applied-input : (v : ℕ) → Input S v → getD (appliedIn store S t st) v 0 ≡ c t v
-  applied-input v i = applied-at v (i .node) (inl (driven-input G v i t below (st .values) (stands .values-size) (stands .values v (i .node))))
-
-  pub applied-delayed : (k : ℕ) → k < delayedCount S → getD (appliedIn store S t st) (placed S k .output) 0 ≡ c t (placed S k .output)
-  applied-delayed k l = applied-at v node (go (owed-now G k t below l))
+  pub applied-delayed : (k : ℕ) → k < delayedCount S → getD (appliedIn store S t st .given) k 0 ≡ givenBy S c k t
+  applied-delayed k l =
+      applied-at k (givenBy S c k t) (delayed-listed S k l)
+      (λ x m p. let (j, b, e) = due x m in ap (λ x. x .value) e ∙ ap (λ j. givenBy S c j t) (sym (ap (λ x. x .position) e) ∙ p))
+      (go (owed-now G k t below l))
     where
-      v : ℕ
-      v = placed S k .output
+      go : (before (givenBy S c k) (nodeByte S (placed S k .output)) t ≡ givenBy S c k t) ⊎ Owed S c horizon t k t
+          → (getD (st .given) k 0 ≡ givenBy S c k t) ⊎ ((x : Change) × List·Memᴰ x dues × (x .position ≡ k))
+      go (inl e) = inl (stands .given k (delayed-listed S k l) ∙ e)
+      go (inr w) = inr (changeAt S c k t, store .tells-due (st .pending) (stands .held) t (stands .holds) (changeAt S c k t) .1 (stands .owing .pending k t w, refl), refl)
 
-      node : v < nodeCount S
-      node = sound G k (delayed-listed S k l) .output
-
-      go : (before (λ u. c u v) (firstValue S v) t ≡ c t v) ⊎ Owed S c horizon t k t → (getD drove v 0 ≡ c t v) ⊎ ((x : Change) × List·Memᴰ x dues × (outputIn (inWorkingOrder S) x ≡ v))
-      go (inl e) = inl (drive-kept S (G .accepted) t (st .values) (stands .values-size) v node (is-driven S k (delayed-listed S k l)) ∙ stands .values v node ∙ e)
-      go (inr w) = inr (changeAt S c k t, store .tells-due (st .pending) (stands .held) t (stands .holds) (changeAt S c k t) .1 (stands .owing .pending k t w, refl), due-output k l)
+  -- the others give what they gave
+  pub applied-kept : (k : ℕ) → delayedCount S ≤ k → k < moduleCount S → getD (appliedIn store S t st .given) k 0 ≡ getD (st .given) k 0
+  applied-kept k l h = applied-at k (getD (st .given) k 0) h (λ x m p. let (j, b, e) = due x m in absurd (omega (arith, ap (λ x. x .position) e, p))) (inl refl)

@@ -16,7 +16,7 @@ use Rattle.model.specs.Standing.{placed, Owed, changeAt, Owing, Standing
 use Rattle.model.proofs.Matched.{Apart}
 use Rattle.model.proofs.NotDue.{not-due-mem, not-due-pairs}
 use Rattle.model.proofs.DelayedFirst.{delayed-listed}
-use Rattle.model.proofs.Setting.{Setting, sound, cell-level}
+use Rattle.model.proofs.Setting.{Setting, sound, given-level}
 
 -- each once, by the entries
 pub owing-pairs : {S : Sheet} {c : Cells} {horizon t : ℕ} {l : List Change} → Owing S c horizon t l → Pairs Apart l
@@ -41,7 +41,7 @@ keepable {S} G t k u w =
       later = w .due;
       near = omega (arith, w .decided, sound G k h .delay);
       position = omega (arith, G .accepted .modules);
-      value = cell-level G u (placed S k .output) (w .below) (sound G k h .output);
+      value = given-level G u k (w .below) h;
     }
 
 module _ {store : Store} {S : Sheet} {c : Cells} {horizon : ℕ} (G : Setting S c horizon) (t : ℕ) where

@@ -4,6 +4,7 @@ pub mod FirstOnes
 pub mod DelayedFirst
 pub mod Setting
 pub mod DriveTick
+pub mod Present
 pub mod DueTick
 pub mod SettleTick
 pub mod NotDue

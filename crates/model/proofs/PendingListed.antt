@@ -1,4 +1,4 @@
--- The changes pending after a tick are listed by module and tick: each pair of a module and a tick above t, at most t + d and below the horizon, at which its output changes, once.
+-- The changes pending after a tick are listed by module and tick: each pair of a module and a tick above t, at most t + d and below the horizon, at which its contribution changes, once.
 -- Assumes nothing.
 use lib.Dec.{T, ltb, ltb→lt, lt→ltb}
 use mathlib.Core.Bool.{Bool, true, false, _&&_}
@@ -8,9 +8,9 @@ use mathlib.Core.Path.{_≡_, sym, ap, _∙_, subst}
 use native.Mathlib.Omega.{arith}
 use Prim.Native.Nat.{ℕ, suc, _+_, _-_, _≤_, _<_}
 use Rattle.level.specs.Choice.{if_then_else_}
-use Rattle.sheet.specs.Sheet.{Sheet, moduleCount, moduleOf, outputOf}
+use Rattle.sheet.specs.Sheet.{Sheet, moduleCount, moduleOf}
 use Rattle.sheet.proofs.Each.{each-mem}
-use Rattle.network.specs.Timeline.{Cells}
+use Rattle.network.specs.Timeline.{Cells, contributions}
 use Rattle.network.specs.Listing.{changes, Pending, pendingOf, pending}
 use Rattle.network.proofs.Rising.{Pairs, pairs-each}
 use Rattle.model.proofs.Matched.{Apart}
@@ -20,7 +20,7 @@ pub record IsPending (S : Sheet) (c : Cells) (horizon t : ℕ) (q : Pending) : T
   pub above : t < q .due
   pub at-most : q .due ≤ t + moduleOf S (q .driver) .delay
   pub below : q .due < horizon
-  pub differs : T (changes c (outputOf S (q .driver)) (q .due))
+  pub differs : T (changes (contributions S c) (q .driver) (q .due))
 
 -- what stands there if a test passes
 if-mem : {A : Type 0} {x q : A} (b : Bool) → List·Memᴰ q (if b then x ∷ [] else []) ↔ (T b × (q ≡ x))
@@ -38,7 +38,7 @@ both false b = (λ h. absurd h, λ h. h .0)
 module _ (S : Sheet) (c : Cells) (horizon t : ℕ) where
   -- module m, so many ticks from now
   abbrev tested : ℕ → ℕ → Bool
-  tested m k = ltb (t + suc k) horizon && changes c (outputOf S m) (t + suc k)
+  tested m k = ltb (t + suc k) horizon && changes (contributions S c) m (t + suc k)
 
   abbrev at : ℕ → ℕ → List Pending
   at m k = if tested m k then record { driver = m; due = t + suc k } ∷ [] else []
@@ -64,7 +64,7 @@ module _ (S : Sheet) (c : Cells) (horizon t : ℕ) where
           q .due - suc t,
           omega (arith, p .above, p .at-most),
           if-mem (tested (q .driver) (q .due - suc t)) .1
-              (subst (λ u. T (ltb u horizon && changes c (outputOf S (q .driver)) u)) due (both (ltb (q .due) horizon) _ .1 (lt→ltb (q .due) horizon (p .below), p .differs)), ap (λ u. record { driver = q .driver; due = u }) due),
+              (subst (λ u. T (ltb u horizon && changes (contributions S c) (q .driver) u)) due (both (ltb (q .due) horizon) _ .1 (lt→ltb (q .due) horizon (p .below), p .differs)), ap (λ u. record { driver = q .driver; due = u }) due),
         ),
       )
 

@@ -1,49 +1,34 @@
--- What the laws of a tick rest on: an accepted sheet and cells that satisfy it up to the horizon; and what that says of the module at a position, of its output's cells and of what
--- it comes to. Assumes nothing.
+-- What the laws of a tick rest on: an accepted sheet and cells that satisfy it up to the horizon; and what that says of the module at a position, of what it contributes and of
+-- what it comes to. Assumes nothing.
 use borrow.Author.Tests.{lt-ltb, le-ltb}
 use lib.ListN.{length, getD, length-map}
 use mathlib.Core.List.{List, List·Memᴰ}
 use mathlib.Core.Path.{_≡_, refl, sym, ap, _∙_}
 use native.Mathlib.Omega.{arith}
-use Prim.Native.Nat.{ℕ, zero, suc, _-_, _≤_, _<_}
+use native.Mathlib.Nat.{le-of-suc-le-suc}
+use Prim.Native.Nat.{ℕ, zero, suc, _-_, _≤_, _<_, suc-le-suc}
 use Rattle.level.specs.Rule.{comesTo}
 use Rattle.level.proofs.Gates.{values-map, length-used, level-bound}
 use Rattle.sheet.specs.Sheet.{Sheet, nodeCount, nodeByte, noModule, moduleCount, moduleOf}
 use Rattle.sheet.specs.Wiring.{inputs, moduleRule, usedInputs}
 use Rattle.sheet.specs.WorkingOrder.{workingOrder, inWorkingOrder}
-use Rattle.sheet.proofs.Tests.{decided}
 use Rattle.sheet.proofs.Listed.{getD-map}
 use Rattle.format.specs.Accepted.{Accepted, Driven, Input, SoundModule}
 use Rattle.format.proofs.Condition.{tells-driven, tells-input}
-use Rattle.network.specs.Timeline.{Cells, driveCell, inputCells, outputCell}
+use Rattle.network.specs.Timeline.{Cells, driveCell, drivenCell, inputCells}
 use Rattle.network.specs.Satisfied.{Satisfied}
 use Rattle.network.proofs.Memory.{at-start, recurrence}
 use Rattle.network.proofs.Equation.{map-same}
-use Rattle.network.proofs.Listed.{position}
 use Rattle.network.proofs.WorkingOrder.{every-module-once, working-order}
-use Rattle.network.proofs.Values.{satisfied-values}
+use Rattle.network.proofs.Values.{equation-value, satisfied-values}
 use Rattle.model.specs.Passes.{moduleIn, inputValues, comesToNow}
 use Rattle.model.specs.Ticks.{orderedAt}
-use Rattle.model.specs.Standing.{before, placed, aheadOf}
+use Rattle.model.specs.Standing.{before, placed, aheadOf, givenBy}
 use Rattle.model.proofs.Puts.{Leveled}
 
 pub record Setting (S : Sheet) (c : Cells) (horizon : ℕ) : Type 0 where
   pub accepted : Accepted S
   pub satisfied : Satisfied S horizon c
-
--- a node is an input, or the output of the module at one position
-pub data Source (S : Sheet) (v : ℕ) : Type 0 where
-  input : Input S v → Source S v
-  output : (k : ℕ) → k < moduleCount S → placed S k .output ≡ v → Source S v
-
-pub source : (S : Sheet) (v : ℕ) → v < nodeCount S → Source S v
-source S v h = which (decided _ (tells-driven S v))
-  where
-    which : Dec (Driven S v) → Source S v
-    which (yes d) =
-        let p = position (every-module-once S) (d .driver) (d .listed) in
-        output (p .0) (p .1) (ap (λ m. moduleOf S m .output) (p .2) ∙ d .output)
-    which (no n) = input (record { node = h; undriven = n })
 
 -- what the module at position k came to before tick t
 abbrev pub heldBefore : Sheet → Cells → ℕ → ℕ → ℕ
@@ -59,6 +44,22 @@ module _ (S : Sheet) where
     pub ahead-step : (c : Cells) (t : ℕ) → comesTo (moduleRule (placed S k)) (inputCells c (placed S k) t) (heldBefore S c k t) ≡ aheadOf S c k t
     ahead-step c zero = sym (at-start (inputCells c (placed S k)) (nodeByte S (placed S k .output)) (moduleRule (placed S k)))
     ahead-step c (suc t) = sym (recurrence (inputCells c (placed S k)) (nodeByte S (placed S k .output)) (moduleRule (placed S k)) t)
+
+    -- what it contributes: the initial value before its delay, and then what it came to so many ticks ago
+    module _ (c : Cells) (t : ℕ) where
+      pub early-given : t < placed S k .delay → givenBy S c k t ≡ nodeByte S (placed S k .output)
+      early-given e = rw (lt-ltb t (placed S k .delay) e)
+
+      pub later-given : placed S k .delay ≤ t → givenBy S c k t ≡ aheadOf S c k (t - placed S k .delay)
+      later-given e = rw (le-ltb t (placed S k .delay) e)
+
+      -- without a delay, at once
+      pub given-at-once : placed S k .delay ≡ 0 → givenBy S c k t ≡ aheadOf S c k t
+      given-at-once e = later-given (omega arith) ∙ ap (aheadOf S c k) (omega arith)
+
+    pub held-at-once : (c : Cells) (t : ℕ) → placed S k .delay ≡ 0 → before (givenBy S c k) (nodeByte S (placed S k .output)) t ≡ heldBefore S c k t
+    held-at-once c zero e = refl
+    held-at-once c (suc t) e = given-at-once c t e
 
     module _ (h : k < moduleCount S) where
       pub module-at : moduleIn (inWorkingOrder S) k ≡ placed S k
@@ -77,21 +78,6 @@ module _ {S : Sheet} {c : Cells} {horizon : ℕ} (G : Setting S c horizon) where
 
     pub initial-level : nodeByte S (placed S k .output) ≤ 3
     initial-level = G .accepted .initial-values (placed S k .output) (sound .output) (is-driven S k h)
-
-    -- cells of its output
-    module _ (t : ℕ) (below : t < horizon) where
-      output-cell : c t (placed S k .output) ≡ outputCell (moduleRule (placed S k)) (placed S k .delay) (inputCells c (placed S k)) (nodeByte S (placed S k .output)) t
-      output-cell = G .satisfied .modules t (orderedAt S k) below (known S k h)
-
-      pub early-cell : t < placed S k .delay → c t (placed S k .output) ≡ nodeByte S (placed S k .output)
-      early-cell e = output-cell ∙ rw (lt-ltb t (placed S k .delay) e)
-
-      pub later-cell : placed S k .delay ≤ t → c t (placed S k .output) ≡ aheadOf S c k (t - placed S k .delay)
-      later-cell e = output-cell ∙ rw (le-ltb t (placed S k .delay) e)
-
-      -- without a delay, at once
-      pub cell-at-once : placed S k .delay ≡ 0 → c t (placed S k .output) ≡ aheadOf S c k t
-      cell-at-once e = later-cell (omega arith) ∙ ap (aheadOf S c k) (omega arith)
 
     -- what it comes to over present values
     module _ (values last : List ℕ) where
@@ -117,12 +103,15 @@ module _ {S : Sheet} {c : Cells} {horizon : ℕ} (G : Setting S c horizon) where
           → comesToNow (inWorkingOrder S) values last k ≡ aheadOf S c k t
       comes-now t same held = comes-over t same ∙ ap (comesTo (moduleRule (placed S k)) (inputCells c (placed S k) t)) held ∙ ahead-step S k c t
 
-  -- one module drives a node, and no module an input
-  pub one-place : (j k : ℕ) → j < moduleCount S → k < moduleCount S → placed S j .output ≡ placed S k .output → j ≡ k
-  one-place j k h l e = every-module-once S .once j k h l (G .accepted .one-driver (orderedAt S j) (orderedAt S k) (known S j h) (known S k l) e)
-
   pub cell-level : (t v : ℕ) → t < horizon → v < nodeCount S → c t v ≤ 3
   cell-level = satisfied-values S (G .accepted) (λ t. workingOrder S) horizon (λ t h. working-order S (G .accepted)) c (G .satisfied)
 
   pub input-cell : (t v : ℕ) → t < horizon → Input S v → c t v ≡ driveCell (S .drive) v t
   input-cell t v h i = G .satisfied .inputs t v h (rw (tells-input S v .1 i) tt)
+
+  pub given-level : (t k : ℕ) → t < horizon → k < moduleCount S → givenBy S c k t ≤ 3
+  given-level t k h l =
+      le-of-suc-le-suc (equation-value S (G .accepted) c t (orderedAt S k) (known S k l) (λ u v b used. suc-le-suc (cell-level u v (omega arith) (sound k l .used v used))))
+
+  pub driven-cell : (t v : ℕ) → t < horizon → Driven S v → c t v ≡ drivenCell S c v t
+  driven-cell t v h d = G .satisfied .driven t v h (rw (tells-driven S v .1 d) tt)

@@ -19,11 +19,12 @@ use Rattle.model.specs.Passes.{moduleIn}
 use Rattle.model.specs.State.{State}
 use Rattle.model.specs.Ticks.{Begun, tickOf, stateAt, recordsBelow}
 use Rattle.model.specs.Standing.{Owed, Standing}
+use Rattle.model.proofs.DelayedFirst.{delayed-listed}
 use Rattle.model.proofs.Setting.{Setting, cell-level}
 use Rattle.model.proofs.SettleTick.{all-worked, settled-cells}
 use Rattle.model.proofs.Decided.{none-early}
 use Rattle.model.proofs.Held.{all-held}
-use Rattle.model.proofs.ScheduleTick.{all-planned, scheduled-last}
+use Rattle.model.proofs.ScheduleTick.{all-planned}
 use Rattle.model.proofs.PendingCount.{pending-count}
 use Rattle.model.proofs.Records.{tick-records, shown-size, now-shown}
 
@@ -35,12 +36,15 @@ module _ {store : Store} {S : Sheet} {c : Cells} {horizon : ℕ} (G : Setting S 
       let planned = all-planned G t h st stands in
       let cells = settled-cells G t h st stands in
       record {
-        values-size = worked .values-size;
-        levels = worked .levels;
+        values-size = worked .present .values-size;
+        levels = worked .present .levels;
         values = cells;
+        given-size = worked .present .given-size;
+        given-levels = worked .present .given-levels;
+        given = worked .come;
         last-size = planned .last .size;
         last-levels = planned .last .levels;
-        last = scheduled-last G t h st stands;
+        last = planned .last .come;
         shown-size = shown-size S c t (G .accepted) _ (st .shown) cells (stands .shown-size);
         shown = now-shown S c t (G .accepted) _ (st .shown) cells (stands .shown-size);
         starts = stands .starts;
@@ -57,9 +61,12 @@ module _ {store : Store} {S : Sheet} {c : Cells} {horizon : ℕ} (G : Setting S 
           values-size = begun .values-size;
           levels = begun .levels;
           values = begun .values;
+          given-size = begun .given-size;
+          given-levels = begun .given-levels;
+          given = begun .given;
           last-size = begun .last-size;
           last-levels = begun .last-levels;
-          last = begun .last;
+          last = λ k h. begun .last k (delayed-listed S k h);
           shown-size = begun .shown-size;
           shown = λ k h. begun .shown (watchedNode S k) (omega (arith, G .accepted .watched-nodes k h, G .accepted .nodes));
           starts = begun .starts;
@@ -69,7 +76,7 @@ module _ {store : Store} {S : Sheet} {c : Cells} {horizon : ℕ} (G : Setting S 
         }
       where
         none : (k u : ℕ) → Owed S c horizon 0 k u → ⊥
-        none k u o = none-early G k (o .delayed) u (o .later) (omega (arith, o .decided)) (o .below) (o .differs)
+        none k u o = none-early S c k (o .delayed) u (o .later) (omega (arith, o .decided)) (o .differs)
 
     pub stands : (t : ℕ) → t ≤ horizon → Standing store S c horizon t (stateAt store S horizon st t)
     unfolding stateAt

@@ -3,10 +3,12 @@
 use mathlib.Core.List.{List, [], _∷_, map}
 use Prim.Native.Nat.{ℕ, zero, suc, _+_}
 use lib.Dec.{eqb, ltb}
-use lib.ListN.{getD, set}
+use lib.ListN.{length, getD, set}
 use Rattle.level.specs.Choice.{if_then_else_}
+use Rattle.level.specs.Join.{joined}
 use Rattle.level.specs.Rule.{comesTo}
 use Rattle.sheet.specs.declared.Module.{Module}
+use Rattle.sheet.specs.Enumerate.{chosen}
 use Rattle.sheet.specs.Sheet.{noModule}
 use Rattle.sheet.specs.Wiring.{moduleRule, usedInputs}
 use Rattle.model.specs.Change.{Change}
@@ -16,41 +18,46 @@ use Rattle.model.specs.Store.{Store}
 abbrev pub moduleIn : List Module → ℕ → Module
 moduleIn modules k = getD modules k noModule
 
--- what a module contributes reaches its output node here, and nowhere else
-abbrev pub give : Module → ℕ → List ℕ → List ℕ
-give m value values = set values (m .output) value
+-- what the drivers of a node give it at present
+abbrev pub presentOn : List Module → List ℕ → ℕ → List ℕ
+presentOn modules given v = chosen (length modules) (λ k. eqb (moduleIn modules k .output) v) (λ k. getD given k 0)
 
--- changes given to the values, one after the other
-unfoldable pub giveAll : List Module → List Change → List ℕ → List ℕ
-giveAll modules [] values = values
-giveAll modules (x ∷ xs) values = giveAll modules xs (give (moduleIn modules (x .position)) (x .value) values)
+-- the nodes' values, and what each module gives its node at present
+pub record Settled : Type 0 where
+  pub values : List ℕ
+  pub given : List ℕ
+
+-- What the module at position k contributes reaches its output node here, and nowhere else: joined with what the node's other drivers
+-- give at present.
+abbrev pub give : List Module → ℕ → ℕ → Settled → Settled
+give modules k value st =
+    let output = moduleIn modules k .output in
+    let given = set (st .given) k value in
+    record { values = set (st .values) output (joined (presentOn modules given output)); given = given }
+
+-- changes given, one after the other
+unfoldable pub giveAll : List Module → List Change → Settled → Settled
+giveAll modules [] st = st
+giveAll modules (x ∷ xs) st = giveAll modules xs (give modules (x .position) (x .value) st)
 
 -- the values of a module's used inputs
 abbrev pub inputValues : Module → List ℕ → List ℕ
 inputValues m values = map (λ v. getD values v 0) (usedInputs m)
 
--- what the module at position k comes to over the present values, holding the value that it came to last
+-- what the module at position k comes to over the present values, holding a value
 abbrev pub comesToNow : List Module → List ℕ → List ℕ → ℕ → ℕ
-comesToNow modules values last k = comesTo (moduleRule (moduleIn modules k)) (inputValues (moduleIn modules k) values) (getD last k 0)
+comesToNow modules values held k = comesTo (moduleRule (moduleIn modules k)) (inputValues (moduleIn modules k) values) (getD held k 0)
 
--- the nodes' values, and the value that each module came to last
-pub record Settled : Type 0 where
-  pub values : List ℕ
-  pub last : List ℕ
-
+-- without a delay a module gives at once what it comes to, and holds what it gave last
 abbrev pub settleOne : List Module → Settled → ℕ → Settled
-settleOne modules st k =
-    record {
-      values = give (moduleIn modules k) (comesToNow modules (st .values) (st .last) k) (st .values);
-      last = set (st .last) k (comesToNow modules (st .values) (st .last) k);
-    }
+settleOne modules st k = give modules k (comesToNow modules (st .values) (st .given) k) st
 
 -- j modules of delay zero from position d on, one after the other
 unfoldable pub settle : List Module → ℕ → ℕ → Settled → Settled
 settle modules d zero st = st
 settle modules d (suc j) st = settleOne modules (settle modules d j st) (d + j)
 
--- the value that each module came to last, and the pending changes
+-- the value that each delayed module came to last, and the pending changes
 pub record Scheduled (store : Store) : Type 0 where
   pub last : List ℕ
   pub pending : store .Kept

@@ -38,10 +38,11 @@ loadedOf S = record { drive = S .drive; modules = inWorkingOrder S; delayed = de
 abbrev pub firstValue : Sheet → ℕ → ℕ
 firstValue S v = if eqb (nodeByte S v) inputByte then unknown else nodeByte S v
 
--- the nodes' values, the value that each module came to last, the values shown last, the starts of the modules' kinds, and the pending
--- changes
+-- the nodes' values, what each module gives its node at present, the value that each delayed module came to last, the values shown last,
+-- the starts of the modules' kinds, and the pending changes
 pub record State (store : Store) : Type 0 where
   pub values : List ℕ
+  pub given : List ℕ
   pub last : List ℕ
   pub shown : List ℕ
   pub starts : List ℕ
@@ -55,13 +56,14 @@ pub record Ticked (store : Store) : Type 0 where
 abbrev pub tick : (store : Store) → Loaded → ℕ → ℕ → State store → Ticked store
 tick store l horizon t st =
     let settled = settle (l .modules) (l .delayed) (length (l .modules) - l .delayed)
-    (record { values = giveAll (l .modules) (store .due (st .pending) t) (driveTick (l .drive) t (st .values)); last = st .last }) in
+    (giveAll (l .modules) (store .due (st .pending) t) (record { values = driveTick (l .drive) t (st .values); given = st .given })) in
     let scheduled = schedule store (l .modules) t horizon (settled .values) (l .delayed)
-    (record { last = settled .last; pending = store .rest (st .pending) t }) in
+    (record { last = st .last; pending = store .rest (st .pending) t }) in
     record {
       state =
           record {
             values = settled .values;
+            given = settled .given;
             last = scheduled .last;
             shown = showAll (settled .values) (st .shown) (l .watched);
             starts = st .starts;

@@ -16,12 +16,15 @@ use Rattle.model.specs.State.{State, Ticked, loadedOf, firstValue, tick}
 abbrev pub orderedAt : Sheet → ℕ → ℕ
 orderedAt S k = getD (workingOrder S) k 0
 
--- before tick 0 nodes have their first values, modules have come to their outputs' initial values, nothing is shown or pending, and the
--- starts of the modules' kinds are worked out
+-- before tick 0 nodes have their first values, modules give and have come to their outputs' initial values, nothing is shown or pending,
+-- and the starts of the modules' kinds are worked out
 pub record Begun (store : Store) (S : Sheet) (st : State store) : Type 0 where
   pub values-size : length (st .values) ≡ mostNodes
   pub values : (v : ℕ) → v < nodeCount S → getD (st .values) v 0 ≡ firstValue S v
   pub levels : (v : ℕ) → getD (st .values) v 0 < 4
+  pub given-size : length (st .given) ≡ moduleCount S
+  pub given : (k : ℕ) → k < moduleCount S → getD (st .given) k 0 ≡ nodeByte S (outputOf S (orderedAt S k))
+  pub given-levels : (k : ℕ) → getD (st .given) k 0 < 4
   pub last-size : length (st .last) ≡ mostModules
   pub last : (k : ℕ) → k < moduleCount S → getD (st .last) k 0 ≡ nodeByte S (outputOf S (orderedAt S k))
   pub last-levels : (k : ℕ) → getD (st .last) k 0 < 4

@@ -12,7 +12,7 @@ use Rattle.level.specs.Choice.{if_then_else_}
 use Rattle.sheet.specs.Enumerate.{each}
 use Rattle.sheet.specs.Limits.{pendingLimit}
 use Rattle.sheet.specs.Outcome.{finished, refused}
-use Rattle.sheet.specs.Sheet.{Sheet, nodeCount, moduleCount, outputOf}
+use Rattle.sheet.specs.Sheet.{Sheet, nodeCount, moduleCount}
 use Rattle.network.specs.Buffer.{room}
 use Rattle.network.specs.Ends.{Ended, endedOf, endedListing}
 use Rattle.network.specs.Listing.{changes, recordOf, recordsAt, listing, pendingOf, pending}
@@ -22,7 +22,7 @@ use Rattle.sheet.proofs.Each.{each-same}
 use Rattle.sheet.proofs.Rows.{finished≢refused}
 use Rattle.network.proofs.Count.{count}
 use Rattle.network.proofs.Ends.{next-same}
-use Rattle.network.proofs.Equation.{map-same}
+use Rattle.network.proofs.Equation.{map-same, equation-local}
 use Rattle.network.proofs.Listed.{each-lengths}
 use Rattle.network.proofs.Listing.{listed-shown}
 use Rattle.network.proofs.PendingCount.{changes-same, pending-of-same}
@@ -114,7 +114,7 @@ module _ (S : Sheet) (w : Wired S) (watched : (v : ℕ) → List·Memᴰ v (S .w
   pending-local : (t : ℕ) → length (pending S c horizon t) ≡ length (pending S q horizon t)
   pending-local t =
       each-lengths (moduleCount S) (pendingOf S c horizon t) (pendingOf S q horizon t)
-      (λ m h. pending-of-same S S c q horizon t m m refl (λ u l. same u (outputOf S m) l (w .output-node m h)))
+      (λ m h. pending-of-same S S c q horizon t m m refl (λ u l. equation-local S c q m u (λ x v b used. same x v (omega arith) (w .used-node m h v used))))
 
   pub written-local : (bytes : ℕ) → writtenOf S c horizon bytes ≡ writtenOf S q horizon bytes
   unfolding writtenOf

@@ -1,6 +1,6 @@
 -- The mission, demand 2, whole: for any set of timelines that satisfies the sheet, what a run answers and writes is what these timelines give. Such a set
 -- exists wherever a run begins. Assumes nothing.
-use mathlib.Core.Bool.{false}
+use mathlib.Core.Bool.{false, false≢true}
 use mathlib.Core.List.{List}
 use mathlib.Core.Logic.{_↔_, _⊎_, ⊎-elim}
 use mathlib.Core.Path.{_≡_, refl, sym, subst}
@@ -18,9 +18,11 @@ use Rattle.network.specs.RunConditions.{Begins, RunCondition}
 use Rattle.network.specs.Satisfied.{Satisfied}
 use Rattle.network.specs.Timeline.{Cells}
 use Rattle.format.proofs.Accepted.{accepted}
+use Rattle.format.specs.Condition.{Condition}
+use Rattle.format.proofs.Table.{none-at-9, strict-at-15}
 use Rattle.format.proofs.Theorems.{no-refusal}
 use Rattle.network.proofs.Listing.{listing-of}
-use Rattle.network.proofs.RunConditions.{FinishedRun, finished-run, refused-tick, never-15, run-conditions}
+use Rattle.network.proofs.RunConditions.{FinishedRun, finished-run, refused-tick, never-answered, run-conditions}
 use Rattle.network.proofs.Runs.{own-cells}
 
 module _ {E : Edition} (known : Known E) (s : List ℕ) (horizon : ℕ) where
@@ -62,8 +64,14 @@ module _ {E : Edition} (known : Known E) (s : List ℕ) (horizon : ℕ) where
   pub timelines-exist : Begins E s horizon → Satisfied (sheetOf E s) horizon (cellsOf (sheetOf E s) horizon)
   timelines-exist b = own-cells (sheetOf E s) (sheet-accepted b) horizon
 
-  -- No run answers 15, whatever its bytes, horizon and buffer: the row is a strict check's alone.
-  pub run-never-15 : (bytes place count : ℕ) → ran E s horizon bytes .answer ≡ refused 15 place count → ⊥
-  run-never-15 bytes =
+  -- No run answers 15, whatever its bytes, horizon and buffer: the row is a strict check's alone. Nor does one answer 9, which has no row.
+  never : (k : ℕ) → 1 < k → k < 19 → ((p : ℕ) → Condition E s k p → ⊥) → (bytes place count : ℕ) → ran E s horizon bytes .answer ≡ refused k place count → ⊥
+  never k l h none bytes =
       let w = ran E s horizon bytes in
-      never-15 w (demand-2 bytes (cellsOf (sheetOf E s) horizon) timelines-exist .answers w .0 refl)
+      never-answered k l h none w (demand-2 bytes (cellsOf (sheetOf E s) horizon) timelines-exist .answers w .0 refl)
+
+  pub run-never-15 : (bytes place count : ℕ) → ran E s horizon bytes .answer ≡ refused 15 place count → ⊥
+  run-never-15 = never 15 (omega arith) (omega arith) (λ p c. false≢true (strict-at-15 c))
+
+  pub run-never-9 : (bytes place count : ℕ) → ran E s horizon bytes .answer ≡ refused 9 place count → ⊥
+  run-never-9 = never 9 (omega arith) (omega arith) (λ p. none-at-9)

@@ -20,19 +20,19 @@ use Rattle.network.specs.Order.{Listed, ValidOrder}
 use Rattle.network.specs.Renumbering.{Permutation, renumbered, renumberedBytes, renumberedListing}
 use Rattle.network.specs.Buffer.{bufferAfter}
 use Rattle.network.specs.Run.{RunLeaves, cellsOf, horizonOutside, ran, writtenOf}
-use Rattle.network.specs.Timeline.{Cells, at}
+use Rattle.network.specs.Timeline.{Cells, at, contribution}
 use Rattle.network.specs.Working.{worked}
 use Rattle.format.proofs.Accepted.{accepted, conversely, strictly, strictly-conversely}
 use Rattle.network.proofs.Answers.{same-answer, whole-listing}
+use Rattle.network.proofs.Equation.{equation-local}
 use Rattle.network.proofs.Listing.{watched-bytes, watched-nodes}
 use Rattle.network.proofs.PendingCount.{pending-renumbered}
 use Rattle.network.proofs.Permuting.{to-once}
-use Rattle.network.proofs.PullBack.{pull-back}
+use Rattle.network.proofs.PullBack.{contribution-renumbered, pull-back}
 use Rattle.network.proofs.Renumbered.{module-count-renumbered, module-of-renumbered}
 use Rattle.network.proofs.RenumberedAccepted.{accepted-renumbered, started}
 use Rattle.network.proofs.RenumberedListing.{Rewatched, renumbered-length, renumbered-listing}
 use Rattle.network.proofs.Runs.{accepted-run, in-range, only, ran-satisfied, ran-sheet, satisfied}
-use Rattle.network.proofs.Wired.{wired}
 use Rattle.network.proofs.WorkingOrder.{working-order}
 use Rattle.network.proofs.Written.{read-back, written-bytes, written-accepted, written-strictly}
 
@@ -69,7 +69,7 @@ module _ (N : Sheet) (acc : Accepted N) (π : Permutation (nodeCount N)) (order 
         listings = renumbered-listing N P (π .to) rewatched n q horizon watched-same;
         answers =
             same-answer N P n q horizon bytes (renumbered-length N P (π .to) rewatched n q horizon watched-same)
-            (λ t h. pending-renumbered N π order each-once (wired N acc) n q horizon same t);
+            (λ t h. pending-renumbered N π order each-once n q horizon contributed-same t);
       }
     where
       n : Cells
@@ -81,6 +81,12 @@ module _ (N : Sheet) (acc : Accepted N) (π : Permutation (nodeCount N)) (order 
       same : (t v : ℕ) → t < horizon → v < nodeCount N → n t v ≡ q t (π .to v)
       same t v h l =
           sym (only N acc horizon ordersN valid-N (λ t v. q t (π .to v)) (pull-back N acc π order each-once horizon q (satisfied P acc-P horizon ordersP valid-P)) t v h l)
+
+      contributed-same : (u k : ℕ) → u < horizon → k < moduleCount N → contribution P q k u ≡ contribution N n (getD order k 0) u
+      contributed-same u k h l =
+          contribution-renumbered N acc π order each-once q u k l
+          ∙ equation-local N (λ t v. q t (π .to v)) n (getD order k 0) u
+          (λ w v b used. sym (same w v (omega arith) (acc .sound-modules (getD order k 0) (each-once .known k l) .used v used)))
 
       watched-same : (t v : ℕ) → t < horizon → List·Memᴰ v (N .watched) → n t v ≡ q t (π .to v)
       watched-same t v h m = same t v h (watched-nodes N acc v m)

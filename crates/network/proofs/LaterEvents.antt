@@ -50,7 +50,7 @@ module _ (S : Sheet) (drive : List Event) (horizon : ℕ) (same : eventsBelow ho
       record {
         inputs = λ t v h i.
             sat .inputs t v h i ∙ cell-below horizon v (S .drive) t h ∙ ap (λ es. driveCell es v t) (sym same) ∙ sym (cell-below horizon v drive t h);
-        modules = sat .modules;
+        driven = sat .driven;
       }
 
   run-alike : Accepted S → Accepted (driven S drive) → (bytes : ℕ) → ranSheet (driven S drive) horizon bytes ≡ ranSheet S horizon bytes

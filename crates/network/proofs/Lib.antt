@@ -8,6 +8,7 @@ pub mod Wired
 pub mod Permuting
 pub mod RenumberedModule
 pub mod Listed
+pub mod Joined
 pub mod Ends
 pub mod Listing
 pub mod RenumberedListing
@@ -38,6 +39,7 @@ pub mod Memory
 pub mod Drive
 pub mod Values
 pub mod Runs
+pub mod OneDriver
 pub mod Demand2
 pub mod LaterEvents
 pub mod Demand3

@@ -1,4 +1,4 @@
--- As many changes are pending in the renumbered sheet: a module's are counted from its delay and its output's cells below the horizon, which are
+-- As many changes are pending in the renumbered sheet: a module's are counted from its delay and its contributions below the horizon, which are
 -- the same in both, and the count over all modules is the same in any order. Assumes nothing.
 use lib.Dec.{eqb, ltb}
 use lib.ListN.{length, getD}
@@ -11,21 +11,20 @@ use native.Mathlib.Omega.{arith}
 use Prim.Native.Nat.{ℕ, zero, suc, _+_, _<_, _≤_}
 use Rattle.level.specs.Choice.{if_then_else_}
 use Rattle.sheet.specs.Enumerate.{each}
-use Rattle.sheet.specs.Sheet.{Sheet, outputOf, moduleCount, moduleOf, nodeCount}
+use Rattle.sheet.specs.Sheet.{Sheet, moduleCount, moduleOf, nodeCount}
 use Rattle.network.specs.Listing.{changes, Pending, pendingOf, pending}
 use Rattle.network.specs.Order.{Listed}
 use Rattle.network.specs.Renumbering.{Permutation, renumbered}
-use Rattle.network.specs.Timeline.{Cells}
+use Rattle.network.specs.Timeline.{Cells, contribution, contributions}
 use Rattle.network.proofs.Listed.{one-to-one, each-lengths, each-reordered}
 use Rattle.network.proofs.Renumbered.{module-count-renumbered, module-of-renumbered}
-use Rattle.network.proofs.Wired.{Wired}
 
 -- a change at a tick is told by the cells of that tick and of the one before
 pub changes-same : (c q : Cells) (v w u : ℕ) → ((k : ℕ) → k ≤ u → c k v ≡ q k w) → changes c v u ≡ changes q w u
 changes-same c q v w zero e = refl
 changes-same c q v w (suc u) e = ap₂ (λ a b. not (eqb a b)) (e (suc u) (le-refl (suc u))) (e u (le-suc u))
 
-tested : (b x y : Bool) → (b ≡ true → x ≡ y) → (b && x) ≡ (b && y)
+pub tested : (b x y : Bool) → (b ≡ true → x ≡ y) → (b && x) ≡ (b && y)
 tested true x y e = e refl
 tested false x y e = refl
 
@@ -40,25 +39,25 @@ due c v horizon t j = ltb (t + suc j) horizon && changes c v (t + suc j)
 abbrev dueOf : ℕ → Cells → ℕ → ℕ → ℕ → ℕ → List Pending
 dueOf m c v horizon t j = if due c v horizon t j then record { driver = m; due = t + suc j } ∷ [] else []
 
--- a module in each of two sheets, with the same delay and the same cells of its output
+-- a module in each of two sheets, with the same delay and the same contributions
 module _ (S P : Sheet) (c q : Cells) (horizon t m k : ℕ) where
-  pub pending-of-same : moduleOf S m .delay ≡ moduleOf P k .delay → ((u : ℕ) → u < horizon → c u (outputOf S m) ≡ q u (outputOf P k))
+  pub pending-of-same : moduleOf S m .delay ≡ moduleOf P k .delay → ((u : ℕ) → u < horizon → contribution S c m u ≡ contribution P q k u)
       → length (pendingOf S c horizon t m) ≡ length (pendingOf P q horizon t k)
   pending-of-same d e =
-      each-lengths (moduleOf S m .delay) (dueOf m c (outputOf S m) horizon t) (dueOf k q (outputOf P k) horizon t) (λ j h. same j)
-      ∙ ap (λ n. length (each n (dueOf k q (outputOf P k) horizon t))) d
+      each-lengths (moduleOf S m .delay) (dueOf m (contributions S c) m horizon t) (dueOf k (contributions P q) k horizon t) (λ j h. same j)
+      ∙ ap (λ n. length (each n (dueOf k (contributions P q) k horizon t))) d
     where
-      test : (j : ℕ) → due c (outputOf S m) horizon t j ≡ due q (outputOf P k) horizon t j
-      test j = tested (ltb (t + suc j) horizon) _ _ (λ b. changes-same c q _ _ (t + suc j) (λ u l. e u (omega (arith, ltb-true (t + suc j) horizon b))))
+      test : (j : ℕ) → due (contributions S c) m horizon t j ≡ due (contributions P q) k horizon t j
+      test j = tested (ltb (t + suc j) horizon) _ _ (λ b. changes-same (contributions S c) (contributions P q) _ _ (t + suc j) (λ u l. e u (omega (arith, ltb-true (t + suc j) horizon b))))
 
-      same : (j : ℕ) → length (dueOf m c (outputOf S m) horizon t j) ≡ length (dueOf k q (outputOf P k) horizon t j)
-      same j = counted _ (due c (outputOf S m) horizon t j) ∙ ap (λ b. if b then 1 else 0) (test j) ∙ sym (counted _ (due q (outputOf P k) horizon t j))
+      same : (j : ℕ) → length (dueOf m (contributions S c) m horizon t j) ≡ length (dueOf k (contributions P q) k horizon t j)
+      same j = counted _ (due (contributions S c) m horizon t j) ∙ ap (λ b. if b then 1 else 0) (test j) ∙ sym (counted _ (due (contributions P q) k horizon t j))
 
-module _ (S : Sheet) (π : Permutation (nodeCount S)) (order : List ℕ) (each-once : Listed (moduleCount S) order) (w : Wired S) where
+module _ (S : Sheet) (π : Permutation (nodeCount S)) (order : List ℕ) (each-once : Listed (moduleCount S) order) where
   abbrev P : Sheet
   P = renumbered S (π .to) (π .from) order
 
-  pub pending-renumbered : (n q : Cells) (horizon : ℕ) → ((t v : ℕ) → t < horizon → v < nodeCount S → n t v ≡ q t (π .to v))
+  pub pending-renumbered : (n q : Cells) (horizon : ℕ) → ((u k : ℕ) → u < horizon → k < moduleCount S → contribution P q k u ≡ contribution S n (getD order k 0) u)
       → (t : ℕ) → length (pending P q horizon t) ≡ length (pending S n horizon t)
   pending-renumbered n q horizon same t =
       ap (λ n. length (each n (pendingOf P q horizon t))) (module-count-renumbered S π order each-once)
@@ -67,6 +66,4 @@ module _ (S : Sheet) (π : Permutation (nodeCount S)) (order : List ℕ) (each-o
     where
       at : (k : ℕ) → k < moduleCount S → length (pendingOf P q horizon t k) ≡ length (pendingOf S n horizon t (getD order k 0))
       at k h =
-          let e = module-of-renumbered S π order each-once k h in
-          pending-of-same P S q n horizon t k (getD order k 0) (ap (λ m. m .delay) e)
-          (λ u l. ap (λ m. q u (m .output)) e ∙ sym (same u _ l (w .output-node _ (each-once .known k h))))
+          pending-of-same P S q n horizon t k (getD order k 0) (ap (λ m. m .delay) (module-of-renumbered S π order each-once k h)) (λ u l. same u k l h)

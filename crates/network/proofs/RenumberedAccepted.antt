@@ -4,17 +4,16 @@ use mathlib.Core.List.{List}
 use mathlib.Core.Path.{_≡_, sym, ap, _∙_, subst, subst₂}
 use native.Mathlib.Omega.{arith}
 use Prim.Native.Nat.{ℕ, _<_}
-use Rattle.sheet.specs.Sheet.{nodeCount, moduleCount, moduleOf, eventCount, eventOf, watchedCount, watchedNode, Sheet, nodeByte, outputOf}
+use Rattle.sheet.specs.Sheet.{nodeCount, moduleCount, moduleOf, eventCount, eventOf, watchedCount, watchedNode, Sheet, nodeByte}
 use Rattle.sheet.specs.Wiring.{inputs}
 use Rattle.format.specs.Accepted.{Input, SoundModule, SoundEvent, DrivenAtStart, Accepted}
 use Rattle.network.specs.Order.{Listed}
 use Rattle.network.specs.Renumbering.{Permutation, renumbered}
 use Rattle.network.specs.Timeline.{at}
 use Rattle.network.proofs.Listing.{watched-nodes}
-use Rattle.network.proofs.Permuting.{to-once}
 use Rattle.network.proofs.Renumbered.{event-back, event-count-renumbered, event-there, module-count-renumbered, module-of-renumbered, node-byte-renumbered, node-count-renumbered, watched-back, watched-count-renumbered}
 use Rattle.network.proofs.RenumberedChains.{no-loop}
-use Rattle.network.proofs.RenumberedInputs.{output-at, driven-from, input-from, input-to}
+use Rattle.network.proofs.RenumberedInputs.{driven-from, input-from, input-to}
 use Rattle.network.proofs.RenumberedModule.{sound-renumbered}
 use Rattle.network.proofs.RenumberedRises.{watched-rise, drive-rises}
 
@@ -48,14 +47,6 @@ module _ (S : Sheet) (acc : Accepted S) (π : Permutation (nodeCount S)) (order 
   watched-node : (k : ℕ) → k < watchedCount P → watchedNode P k < nodeCount P
   watched-node k h = let b = watched-back S π order each-once k h in omega (arith, π .to-below _ (acc .watched-nodes (b .0) (b .1)), b .2, nodes)
 
-  one-driver : (a b : ℕ) → a < moduleCount S → b < moduleCount S → outputOf P a ≡ outputOf P b → a ≡ b
-  one-driver a b h l e =
-      let m = each-once .known a h in
-      let n = each-once .known b l in
-      let output = output-at S acc π order each-once in
-      let same = to-once π _ _ (acc .sound-modules _ m .output) (acc .sound-modules _ n .output) (sym (output a h) ∙ e ∙ output b l) in
-      each-once .once a b h l (acc .one-driver _ _ m n same)
-
   pub accepted-renumbered : Accepted P
   accepted-renumbered =
       record {
@@ -68,7 +59,6 @@ module _ (S : Sheet) (acc : Accepted S) (π : Permutation (nodeCount S)) (order 
         sound-modules = λ k h. sound-module k (listed k h);
         sound-events = sound-event;
         watched-nodes = watched-node;
-        one-driver = λ a b h l. one-driver a b (listed a h) (listed b l);
         initial-values = λ w h d. let l = node w h in omega (arith, acc .initial-values (π .from w) (π .from-below w l) (driven-from S acc π order each-once w l .0 d), node-byte w l);
         inputs = λ w i. let l = node w (i .node) in node-byte w l ∙ acc .inputs (π .from w) (input-from S acc π order each-once w l .0 i);
         drive-rises = drive-rises S acc π order;

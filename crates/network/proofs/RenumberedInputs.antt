@@ -51,5 +51,8 @@ module _ (S : Sheet) (acc : Accepted S) (π : Permutation (nodeCount S)) (order 
   )
 
   -- by the number in the sheet
+  pub driven-to : (v : ℕ) → v < nodeCount S → Driven P (π .to v) ↔ Driven S v
+  driven-to v l = subst (λ u. Driven P (π .to v) ↔ Driven S u) (π .from-to v l) (driven-from (π .to v) (π .to-below v l))
+
   pub input-to : (v : ℕ) → v < nodeCount S → Input P (π .to v) ↔ Input S v
   input-to v l = subst (λ u. Input P (π .to v) ↔ Input S u) (π .from-to v l) (input-from (π .to v) (π .to-below v l))

@@ -2,7 +2,7 @@
 -- any set of timelines that satisfies the sheet. Assumes nothing.
 use lib.ListN.{length}
 use borrow.Author.Tests.{eq-eqb, ne-eqb, lt-ltb, le-ltb}
-use mathlib.Core.Bool.{false, false≢true}
+use mathlib.Core.Bool.{false}
 use mathlib.Core.List.{List}
 use mathlib.Core.Logic.{_↔_, _⊎_, inl, inr, ⊎-elim}
 use mathlib.Core.Path.{_≡_, refl, sym, ap, _∙_, subst}
@@ -19,7 +19,6 @@ use Rattle.sheet.specs.declared.Edition.{Edition}
 use Rattle.format.specs.Accepted.{Known}
 use Rattle.format.specs.Condition.{Condition, FirstCondition}
 use Rattle.format.proofs.Accepted.{accepted}
-use Rattle.format.proofs.Table.{strict-at-15}
 use Rattle.format.proofs.Theorems.{refusals, no-refusal, no-other-answer}
 use Rattle.network.specs.Buffer.{room}
 use Rattle.network.specs.Ends.{Ended, endedListing}
@@ -143,12 +142,12 @@ module _ {E : Edition} {s : List ℕ} {c : Cells} {horizon bytes : ℕ} where
       (f .begins, inr (cc, ap (λ u. endedListing (sheetOf E s) c (suc u)) tick))
   refused-tick known w (whole b all) n t count above e = absurd (finished≢refused e)
 
-  -- no condition of a run is that of 15
-  pub never-15 : (w : Written) → RunCondition E s c horizon bytes w → (place count : ℕ) → w .answer ≡ refused 15 place count → ⊥
-  never-15 w (horizon-outside h) place count e = let n : _≡_ {A = ℕ} 1 15 = cc in omega arith
-  never-15 w (sheet-refused {n} {p} h k r) place count e =
-      let is : n ≡ 15 = cc in
-      false≢true (strict-at-15 (subst (λ n. Condition E s n p) is (r .met)))
-  never-15 w (no-room t f o) place count e = let n : _≡_ {A = ℕ} 19 15 = cc in omega arith
-  never-15 w (crowded t f r p) place count e = let n : _≡_ {A = ℕ} 20 15 = cc in omega arith
-  never-15 w (whole b all) place count e = absurd (finished≢refused e)
+  -- no run answers a number of the sheet's table whose condition is met nowhere
+  pub never-answered : (k : ℕ) → 1 < k → k < 19 → ((p : ℕ) → Condition E s k p → ⊥) → (w : Written) → RunCondition E s c horizon bytes w → (place count : ℕ) → w .answer ≡ refused k place count → ⊥
+  never-answered k l h none w (horizon-outside o) place count e = let n : _≡_ {A = ℕ} 1 k = cc in omega (arith, n)
+  never-answered k l h none w (sheet-refused {n} {p} o q r) place count e =
+      let is : n ≡ k = cc in
+      none p (subst (λ n. Condition E s n p) is (r .met))
+  never-answered k l h none w (no-room t f o) place count e = let n : _≡_ {A = ℕ} 19 k = cc in omega (arith, n)
+  never-answered k l h none w (crowded t f r p) place count e = let n : _≡_ {A = ℕ} 20 k = cc in omega (arith, n)
+  never-answered k l h none w (whole b all) place count e = absurd (finished≢refused e)

@@ -64,7 +64,7 @@ module _ (E : Edition) (s : List ℕ) (horizon bytes : ℕ) (runs : RunsToHorizo
 
 module _ (S : Sheet) (acc : Accepted S) (horizon : ℕ) (orders : ℕ → List ℕ) (valid : ValidOrders S horizon orders) where
   pub satisfied : Satisfied S horizon (worked S orders horizon)
-  satisfied = existence S (wired S acc) orders horizon valid
+  satisfied = existence S orders horizon valid
 
   pub only : Only S horizon (worked S orders horizon)
   only = uniqueness S (wired S acc) orders horizon valid

@@ -1,15 +1,16 @@
--- Timelines that satisfy a sheet are the same, so they are the worked ones: inputs' cells are the drive's, and a module's equation has one value
+-- Timelines that satisfy a sheet are the same, so they are the worked ones: inputs' cells are the drive's, and a driven node's equation has one value
 -- over the same cells. Assumes nothing.
 use mathlib.Core.List.{List}
-use mathlib.Core.Path.{_≡_, sym, _∙_}
+use mathlib.Core.Path.{_≡_, sym, ap, _∙_}
 use Prim.Native.Nat.{ℕ, _<_}
+use Rattle.level.specs.Join.{joined}
 use Rattle.sheet.specs.Sheet.{Sheet, nodeCount}
 use Rattle.network.specs.Order.{ValidOrder}
 use Rattle.network.specs.Satisfied.{Satisfied}
-use Rattle.network.specs.Timeline.{Cells}
+use Rattle.network.specs.Timeline.{Cells, contributions}
 use Rattle.network.specs.Working.{worked}
 use Rattle.network.proofs.Equation.{equation-local}
-use Rattle.network.proofs.Existence.{existence}
+use Rattle.network.proofs.Existence.{existence, from-drivers-same}
 use Rattle.network.proofs.Induction.{every-cell}
 use Rattle.network.proofs.Wired.{Wired}
 
@@ -19,8 +20,11 @@ module _ (S : Sheet) (w : Wired S) (orders : ℕ → List ℕ) (horizon : ℕ) (
   agree c c′ s s′ =
       every-cell S w (λ t v. c t v ≡ c′ t v) horizon
       (λ t v h i. s .inputs t v h i ∙ sym (s′ .inputs t v h i))
-      (λ t m h l read. s .modules t m h l ∙ equation-local S c c′ m t read ∙ sym (s′ .modules t m h l))
+      (λ t v h d read.
+      s .driven t v h d
+      ∙ ap joined (from-drivers-same S (contributions S c t) (contributions S c′ t) v (λ m l e. equation-local S c c′ m t (read m l e)))
+      ∙ sym (s′ .driven t v h d))
       orders valid
 
   pub uniqueness : (c : Cells) → Satisfied S horizon c → (t v : ℕ) → t < horizon → v < nodeCount S → c t v ≡ worked S orders horizon t v
-  uniqueness c s = agree c (worked S orders horizon) s (existence S w orders horizon valid)
+  uniqueness c s = agree c (worked S orders horizon) s (existence S orders horizon valid)

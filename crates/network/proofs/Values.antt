@@ -1,7 +1,7 @@
--- Every cell of an accepted sheet is one of the four values: drive and initial values are, and every rule gives one over values. Assumes nothing.
+-- Every cell of an accepted sheet is one of the four values: drive and initial values are, every rule gives one over values, and so does joining. Assumes nothing.
 use lib.Dec.{eqb, ltb}
 use lib.ListN.{length, length-map}
-use borrow.Author.Tests.{ltb-false}
+use borrow.Author.Tests.{ltb-false, eqb-true}
 use mathlib.Core.Bool.{Bool, true, false, _&&_}
 use mathlib.Core.List.{List, [], _∷_, List·Memᴰ, List·Memᴰ·head, List·Memᴰ·tail}
 use mathlib.Core.Path.{_≡_, refl, _∙_}
@@ -9,19 +9,22 @@ use native.Mathlib.Nat.{le-refl, le-step, le-of-suc-le-suc}
 use native.Mathlib.Omega.{arith}
 use Prim.Native.Nat.{ℕ, zero, suc, _+_, _-_, _≤_, _<_}
 use Rattle.level.specs.Choice.{if_then_else_}
+use Rattle.level.specs.Join.{joined}
 use Rattle.level.specs.Kind.{ruleOf}
 use Rattle.level.specs.Rule.{inputsOf}
-use Rattle.sheet.specs.Enumerate.{listed}
-use Rattle.sheet.specs.Sheet.{nodeCount, moduleCount, moduleOf, nodeByte, Sheet, noEvent}
+use Rattle.sheet.specs.Enumerate.{chosen}
+use Rattle.sheet.specs.Sheet.{nodeCount, moduleCount, moduleOf, outputOf, nodeByte, Sheet, noEvent}
 use Rattle.sheet.specs.Wiring.{usedInputs, inputs, moduleRule}
 use Rattle.sheet.specs.declared.Event.{Event}
 use Rattle.sheet.specs.declared.Module.{Module}
 use Rattle.format.specs.Accepted.{Accepted, SoundModule}
 use Rattle.network.specs.Order.{ValidOrder}
 use Rattle.network.specs.Satisfied.{Satisfied}
-use Rattle.network.specs.Timeline.{Cells, at, given, driveCell, comesToAt, contribution, inputCells}
+use Rattle.network.specs.Timeline.{Cells, at, given, driveCell, comesToAt, contribution, contributions, inputCells}
 use Rattle.network.specs.Working.{worked}
-use Rattle.level.proofs.Gates.{Values, length-used, level-bound, values-map}
+use Rattle.level.proofs.Gates.{Values, length-used, level-bound, values-map, values-all}
+use Rattle.level.proofs.Join.{joined-value}
+use Rattle.sheet.proofs.Chosen.{chosen-all}
 use Rattle.network.proofs.Existence.{existence}
 use Rattle.network.proofs.Induction.{every-cell}
 use Rattle.network.proofs.Memory.{at-start, recurrence}
@@ -40,6 +43,10 @@ module _ (kind parameter : ℕ) (constant : kind ≡ 0 → parameter < 4) (a : �
       rw (recurrence a initial (ruleOf kind parameter) u)
       (level-bound kind parameter (a (suc u)) _ constant (sized (suc u)) (cells (suc u) (le-refl (suc u))) (comes-to-value u (λ w h. cells w (le-step h))))
 
+-- what is joined of values
+pub joined-values : (n : ℕ) (p : ℕ → Bool) (f : ℕ → ℕ) → ((k : ℕ) → k < n → p k ≡ true → f k < 4) → joined (chosen n p f) < 4
+joined-values n p f all = joined-value (chosen n p f) (values-all (chosen n p f) (chosen-all (λ x. x < 4) n p f all))
+
 -- an input's cell
 module _ (drive : List Event) (v : ℕ) (values : (e : Event) → List·Memᴰ e drive → e .value < 4) where
   given-value : (es : List Event) → ((e : Event) → List·Memᴰ e es → e .value < 4) → (t before : ℕ) → before < 4 → given es v t before < 4
@@ -54,7 +61,7 @@ module _ (drive : List Event) (v : ℕ) (values : (e : Event) → List·Memᴰ e
   drive-value (suc t) = given-value drive values (suc t) (driveCell drive v t) (drive-value t)
 
 module _ (S : Sheet) (acc : Accepted S) where
-  equation-value : (c : Cells) (t m : ℕ) → m < moduleCount S
+  pub equation-value : (c : Cells) (t m : ℕ) → m < moduleCount S
       → ((u v : ℕ) → u + moduleOf S m .delay ≤ t → List·Memᴰ v (usedInputs (moduleOf S m)) → c u v < 4) → contribution S c m t < 4
   equation-value c t m h read = late (ltb t d) refl
     where
@@ -89,8 +96,8 @@ module _ (S : Sheet) (acc : Accepted S) where
     satisfied-values c sat t v h l = le-of-suc-le-suc
         (every-cell S (wired S acc) (λ t v. c t v < 4) horizon
         (λ t v h i. rw (sat .inputs t v h i) (drive-value (S .drive) v (members-all (λ e. e .value < 4) (S .drive) noEvent (λ i k. omega (arith, acc .sound-events i k .value))) t))
-        (λ t m h l read. rw (sat .modules t m h l) (equation-value c t m l read))
+        (λ t v h d read. rw (sat .driven t v h d) (joined-values (moduleCount S) _ (contributions S c t) (λ m l e. equation-value c t m l (read m l (eqb-true (outputOf S m) v e)))))
         orders valid t v h l)
 
     pub values : (t v : ℕ) → t < horizon → v < nodeCount S → worked S orders horizon t v ≤ 3
-    values = satisfied-values (worked S orders horizon) (existence S (wired S acc) orders horizon valid)
+    values = satisfied-values (worked S orders horizon) (existence S orders horizon valid)

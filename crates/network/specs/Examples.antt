@@ -1,10 +1,12 @@
--- Document 01, "Examples": the cells marked * to be proved, which join the gates' in one table, and those of inputs that start unknown
--- and of gates of three inputs, as document 02's W-203 and W-205 have them.
+-- Document 01, "Examples": the cells marked * to be proved, which join the gates' in one table, and those of inputs that start unknown,
+-- of gates of three inputs and of nodes with several drivers, as document 02's W-203, W-205 and W-209 have them.
 use mathlib.Core.List.{List, [], _∷_, _++_}
 use Prim.Native.Nat.{ℕ}
-use Rattle.level.specs.Level.{low, high, unknown}
-use Rattle.level.specs.Examples.{Example, is, gateExamples}
+use lib.ListN.{length}
+use Rattle.level.specs.Level.{low, high, unknown, none}
+use Rattle.level.specs.Examples.{Example, is, gateExamples, joinExamples}
 use Rattle.sheet.specs.Layout.{firstEdition, secondEdition, sheetOf}
+use Rattle.network.specs.Listing.{pending}
 use Rattle.network.specs.Run.{cellsOf}
 
 -- the worked run's sheet: node 0 is an input, and a NAND of delay 3 drives node 1 from node 0 and node 1
@@ -76,6 +78,58 @@ threeExamples =
     ∷ is (cellsOf (sheetOf secondEdition threeSheet) 8 6 4) high
     ∷ []
 
+-- A bus. Nodes 0 and 1 are inputs, nodes 2 and 3 the clocks of two clocked inverters from them, of delay 1 and of delay 2, which both drive
+-- node 4. The first clock is 1 from tick 2 and 0 from tick 6 on, the second 1 from tick 4 on; node 1 falls at tick 8.
+abbrev pub busSheet : List ℕ
+busSheet =
+    5 ∷ 0 ∷ 4 ∷ 4 ∷ 4 ∷ 4 ∷ 3
+    ∷ 2 ∷ 0 ∷ 8 ∷ 0 ∷ 4 ∷ 0 ∷ 2 ∷ 1 ∷ 0 ∷ 8 ∷ 0 ∷ 4 ∷ 1 ∷ 3 ∷ 2 ∷ 0
+    ∷ 8 ∷ 0 ∷ 0 ∷ 0 ∷ 0 ∷ 0 ∷ 0 ∷ 0 ∷ 0 ∷ 0 ∷ 0 ∷ 0 ∷ 1 ∷ 1 ∷ 0 ∷ 0 ∷ 0 ∷ 0 ∷ 2 ∷ 0 ∷ 0 ∷ 0 ∷ 0 ∷ 0 ∷ 3 ∷ 0
+    ∷ 2 ∷ 0 ∷ 0 ∷ 0 ∷ 2 ∷ 1 ∷ 4 ∷ 0 ∷ 0 ∷ 0 ∷ 3 ∷ 1 ∷ 6 ∷ 0 ∷ 0 ∷ 0 ∷ 2 ∷ 0 ∷ 8 ∷ 0 ∷ 0 ∷ 0 ∷ 1 ∷ 0
+    ∷ 1 ∷ 0 ∷ 4 ∷ []
+
+-- no driver gives a value; the first gives 1; both give one, 1 and 0; the second gives 0, and then 1
+abbrev pub busExamples : List Example
+busExamples =
+    is (cellsOf (sheetOf firstEdition busSheet) 12 2 4) none
+    ∷ is (cellsOf (sheetOf firstEdition busSheet) 12 5 4) high
+    ∷ is (cellsOf (sheetOf firstEdition busSheet) 12 6 4) unknown
+    ∷ is (cellsOf (sheetOf firstEdition busSheet) 12 7 4) low
+    ∷ is (cellsOf (sheetOf firstEdition busSheet) 12 10 4) high
+    ∷ []
+
+-- A buffer and an inverter of delay 3, from the input node 0, both drive node 1: they always clash. Node 0 rises at tick 4.
+abbrev pub clashSheet : List ℕ
+clashSheet =
+    2 ∷ 0 ∷ 4 ∷ 2
+    ∷ 2 ∷ 0 ∷ 1 ∷ 0 ∷ 1 ∷ 0 ∷ 0 ∷ 3 ∷ 0 ∷ 2 ∷ 0 ∷ 1 ∷ 0 ∷ 0 ∷ 3 ∷ 0
+    ∷ 2 ∷ 0 ∷ 0 ∷ 0 ∷ 0 ∷ 0 ∷ 0 ∷ 0 ∷ 4 ∷ 0 ∷ 0 ∷ 0 ∷ 0 ∷ 1
+    ∷ 1 ∷ 0 ∷ 1 ∷ []
+
+-- Two equal records are two modules: buffers of delay 3.
+abbrev pub twiceSheet : List ℕ
+twiceSheet =
+    2 ∷ 0 ∷ 4 ∷ 0
+    ∷ 2 ∷ 0 ∷ 1 ∷ 0 ∷ 1 ∷ 0 ∷ 0 ∷ 3 ∷ 0 ∷ 1 ∷ 0 ∷ 1 ∷ 0 ∷ 0 ∷ 3 ∷ 0
+    ∷ 2 ∷ 0 ∷ 0 ∷ 0 ∷ 0 ∷ 0 ∷ 0 ∷ 0 ∷ 4 ∷ 0 ∷ 0 ∷ 0 ∷ 0 ∷ 1
+    ∷ 1 ∷ 0 ∷ 1 ∷ []
+
+-- how many changes are pending after a tick of a run to horizon 10
+abbrev pub pendingAfter : List ℕ → ℕ → ℕ
+pendingAfter s t = length (pending (sheetOf firstEdition s) (cellsOf (sheetOf firstEdition s) 10) 10 t)
+
+-- the bus stands at X while two changes are pending, one of each driver; equal drivers have one each as well
+abbrev pub clashExamples : List Example
+clashExamples =
+    is (cellsOf (sheetOf firstEdition clashSheet) 10 6 1) unknown
+    ∷ is (cellsOf (sheetOf firstEdition clashSheet) 10 7 1) unknown
+    ∷ is (pendingAfter clashSheet 3) 0
+    ∷ is (pendingAfter clashSheet 4) 2
+    ∷ is (pendingAfter clashSheet 7) 0
+    ∷ is (cellsOf (sheetOf firstEdition twiceSheet) 10 7 1) high
+    ∷ is (pendingAfter twiceSheet 4) 2
+    ∷ []
+
 -- the one table
 abbrev pub examples : List Example
-examples = gateExamples ++ cellExamples ++ startExamples ++ threeExamples
+examples = gateExamples ++ cellExamples ++ startExamples ++ threeExamples ++ joinExamples ++ busExamples ++ clashExamples

@@ -13,3 +13,4 @@ pub mod Demand3
 pub mod Examples
 pub mod RunConditions
 pub mod LaterEvents
+pub mod OneDriver

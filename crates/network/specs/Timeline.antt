@@ -1,5 +1,5 @@
--- Document 01, "Time and values" and "Modules", with document 02's W-203: cells, an input's cell from the drive, and what a module gives
--- its output node.
+-- Document 01, "Time and values" and "Modules", with document 02's W-203 and W-209: cells, an input's cell from the drive, what a module
+-- contributes to its output node, and a driven node's cell from the contributions of all its drivers.
 use mathlib.Core.Bool.{Bool, _&&_}
 use mathlib.Core.List.{List, [], _∷_, map}
 use Prim.Native.Nat.{ℕ, zero, suc, _-_}
@@ -7,10 +7,12 @@ use lib.Dec.{eqb, ltb}
 use Rattle.level.specs.Choice.{if_then_else_}
 use Rattle.level.specs.Level.{unknown}
 use Rattle.level.specs.Gate.{inputAt}
+use Rattle.level.specs.Join.{joined}
 use Rattle.level.specs.Rule.{Rule, gate, hold}
 use Rattle.sheet.specs.declared.Module.{Module}
 use Rattle.sheet.specs.declared.Event.{Event}
-use Rattle.sheet.specs.Sheet.{Sheet, nodeByte, moduleOf, outputOf}
+use Rattle.sheet.specs.Enumerate.{chosen}
+use Rattle.sheet.specs.Sheet.{Sheet, nodeByte, moduleCount, moduleOf, outputOf}
 use Rattle.sheet.specs.Wiring.{moduleRule, usedInputs}
 
 -- cell t of a node is its value from just after tick t up to and including tick t + 1: by tick, then by node
@@ -59,7 +61,19 @@ outputCell rule d inputs initial t = if ltb t d then initial else comesToAt rule
 abbrev pub inputCells : Cells → Module → ℕ → List ℕ
 inputCells c m u = map (c u) (usedInputs m)
 
--- What a module gives its output node over cells. A node has one driver, and its equation is that its cells are those.
+-- A module's contribution to its output node, over cells.
 abbrev pub contribution : Sheet → Cells → ℕ → Timeline
 contribution S c m t =
     outputCell (moduleRule (moduleOf S m)) (moduleOf S m .delay) (inputCells c (moduleOf S m)) (nodeByte S (outputOf S m)) t
+
+-- the same by tick, then by module
+abbrev pub contributions : Sheet → Cells → ℕ → ℕ → ℕ
+contributions S c t m = contribution S c m t
+
+-- what modules give, of those that drive a node, in the order in which they are listed
+abbrev pub fromDrivers : Sheet → (ℕ → ℕ) → ℕ → List ℕ
+fromDrivers S give v = chosen (moduleCount S) (λ m. eqb (outputOf S m) v) give
+
+-- A driven node's cell joins the contributions of all its drivers.
+abbrev pub drivenCell : Sheet → Cells → ℕ → Timeline
+drivenCell S c v t = joined (fromDrivers S (contributions S c t) v)

@@ -1,7 +1,7 @@
 -- The pass over the pending changes, one after the other: those due are taken, and the others move down. Assumes nothing.
 use mathlib.Core.Bool.{Bool, true, false}
-use mathlib.Core.List.{List, [], _∷_, _++_, append-nil}
-use mathlib.Core.Path.{_≡_, refl, sym, _∙_}
+use mathlib.Core.List.{List, [], _∷_, _++_, append-nil, List·Memᴰ, List·Memᴰ·head, List·Memᴰ·tail, Memᴰ·cast}
+use mathlib.Core.Path.{_≡_, refl, sym, ap, _∙_}
 use Prim.Native.Nat.{ℕ, _+_, _<_, _≤_}
 use native.Mathlib.Numerals.{add-one}
 use native.Mathlib.Omega.{arith}
@@ -10,6 +10,7 @@ use lib.Dec.{eqb}
 use lib.ListN.{getD, set, take, drop, length-set}
 use lib.Seq.{take-suc, drop-cons, take-suc-set, take-set-lt, drop-set-lt, take-all, length-take-le, getD-take}
 use Rattle.level.specs.Choice.{if_then_else_}
+use Rattle.sheet.proofs.Listed.{getD-mem}
 use Rattle.model.specs.Change.{Change}
 use Rattle.pending.specs.declared.Scan.{Scan}
 use Rattle.pending.specs.Flat.{places, unpacked, flatDue, flatRest}
@@ -51,6 +52,16 @@ module _ (t p : ℕ) where
   rest-more [] = refl
   rest-more (q ∷ k) = rw (rest-more k) (if-append (eqb (unpacked q .due) t) (flatRest k t) (q ∷ flatRest k t) _)
 
+-- what is due among the numbers
+due-mem : (t p : ℕ) {k : List ℕ} → List·Memᴰ p k → unpacked p .due ≡ t → List·Memᴰ (unpacked p) (flatDue k t)
+unfolding flatDue
+due-mem t p (List·Memᴰ·head {x = q} {xs = k} i) e = rw (← i, eq-eqb (unpacked p .due) t e) (List·Memᴰ·head refl)
+due-mem t p (List·Memᴰ·tail {x = q} {xs = k} m) e = by (eqb (unpacked q .due) t) (due-mem t p m e)
+  where
+    by : (b : Bool) → List·Memᴰ (unpacked p) (flatDue k t) → List·Memᴰ (unpacked p) (if b then unpacked q ∷ flatDue k t else flatDue k t)
+    by true i = List·Memᴰ·tail i
+    by false i = i
+
 cons-head : {x y : ℕ} {k l : List ℕ} → x ∷ k ≡ y ∷ l → x ≡ y
 cons-head e = cc
 
@@ -77,6 +88,7 @@ module _ {start : List ℕ} {t : ℕ} {taken : List Change} {store : List ℕ} {
         record {
           position = omega arith;
           value = omega arith;
+          due = Memᴰ·cast (ap (λ d. record { due = d; position = unpacked here .position; value = unpacked here .value }) (sym e)) (due-mem t here (Memᴰ·cast (cons-head ahead) (getD-mem start at 0 (omega arith))) e);
           nearer = omega arith;
           taking =
               record {

@@ -1,5 +1,5 @@
 -- Changes due at a tick are taken one at a time, in one pass over the numbers.
-use mathlib.Core.List.{List, [], _∷_, _++_}
+use mathlib.Core.List.{List, [], _∷_, _++_, List·Memᴰ}
 use mathlib.Core.Path.{_≡_}
 use Prim.Native.Nat.{ℕ, _-_, _<_, _≤_}
 use lib.ListN.{length, take, drop}
@@ -34,10 +34,11 @@ module _ (start : List ℕ) (t : ℕ) where
     pub stay : take (scan .kept) store ≡ flatRest (take (scan .at) start) t
     pub ahead : drop (scan .at) (take count store) ≡ drop (scan .at) start
 
-  -- one more change is taken, and the scan has gone on past it
+  -- one more change is taken, which is due, and the scan has gone on past it
   pub record OneTaken (taken : List Change) (store : List ℕ) (count : ℕ) (from : Scan) (x : Change) (scan : Scan) : Type 0 where
     pub position : x .position < 256
     pub value : x .value < 4
+    pub due : List·Memᴰ x (arrangement .due start t)
     pub nearer : toGo count scan < toGo count from
     pub taking : Taking (taken ++ x ∷ []) store count scan
 

@@ -15,7 +15,7 @@ horizonSize = 4
 abbrev pub horizonIn : List ℕ → ℕ
 horizonIn input = longAt input 0
 
--- then the sheet: document 01 counts 8,456 bytes for the longest (no accepted one has more than 8,449), so 8,457 at most are read
+-- then the sheet: document 01 counts 8,456 bytes for the longest, so 8,457 at most are read
 abbrev pub sheetLimit : ℕ
 sheetLimit = 8457
 

@@ -6,7 +6,7 @@ use Prim.Native.Nat.{ℕ, _+_, _*_, _<_, _≤_}
 use native.Mathlib.Nat.{mul-zero, mul-suc, add-zero, add-assoc}
 use native.Mathlib.Numerals.{add-one}
 use native.Mathlib.Omega.{arith}
-use lib.ListN.{length, getD, set, replicate, getD-replicate, length-replicate, length-set}
+use lib.ListN.{length, set, replicate, getD-replicate, length-replicate, length-set}
 use Rattle.sheet.specs.declared.Answer.{Answer}
 use Rattle.sheet.specs.declared.Edition.{Edition}
 use Rattle.sheet.specs.declared.Module.{Module}
@@ -71,7 +71,7 @@ module _ (e : Edition) (s : List ℕ) where
         ∙ sym (passed-append (countRows s (modulesPlace s) 0 mostModules) (each (modulesCounted s) (moduleRows e s)) (r .count-clear))
 
     abbrev rowsAt : ℕ → List Row
-    rowsAt q = (2 at q when endsInside s q (e .size)) ∷ recordRows (e .greatest) (nodesCounted s) (drivenBy (sheetOf e s) m) q (moduleRecord e s q)
+    rowsAt q = (2 at q when endsInside s q (e .size)) ∷ recordRows (e .greatest) (nodesCounted s) q (moduleRecord e s q)
 
     pub module-short : ModuleRead.Short ≡ moduleRead e s p → refused 2 p 0 ≡ first (moduleRows e s m)
     unfolding first
@@ -82,16 +82,15 @@ module _ (e : Edition) (s : List ℕ) where
       there = whole-module (endsInside s p (e .size)) (moduleRecord e s p) r read
 
       -- what the code tests of the record is what its rows say
-      pub module-whole : {nodes : ℕ} → nodes ≡ nodesCounted s → r .output < 256 → {o : Outcome} → o ≡ first (recordRows (e .greatest) nodes (λ v. getD driven v false) p r)
-          → o ≡ first (moduleRows e s m)
+      pub module-whole : {nodes : ℕ} → nodes ≡ nodesCounted s → {o : Outcome} → o ≡ first (recordRows (e .greatest) nodes p r) → o ≡ first (moduleRows e s m)
       unfolding first
-      module-whole n h told =
+      module-whole n told =
           told
           ∙ sym
           (ap (λ q. first (rowsAt q)) (sym (reached .place))
           ∙ simp (there .0)
-          (ap (λ x. first (recordRows (e .greatest) (nodesCounted s) (drivenBy (sheetOf e s) m) p x)) (sym (there .1))
-          ∙ simp (← n, reached .flags (r .output) h)))
+          (ap (λ x. first (recordRows (e .greatest) (nodesCounted s) p x)) (sym (there .1))
+          ∙ simp (← n)))
 
       -- one module more
       pub one-more-read : m < count → r .output < 256 → e .size < 256 → first (moduleRows e s m) ≡ finished 0

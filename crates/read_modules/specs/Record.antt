@@ -7,14 +7,13 @@ use Rattle.sheet.specs.declared.Module.{Module}
 use Rattle.sheet.specs.Limits.{inputByte, longestDelay}
 use Rattle.sheet.specs.Refusal.{Row, _at_when_, greatestParameter, miswired}
 
--- over the greatest kind, the count of nodes and a test for those that earlier records drive
-abbrev pub recordRows : ℕ → ℕ → (ℕ → Bool) → ℕ → Module → List Row
-recordRows greatest nodes driven place m =
+-- over the greatest kind and the count of nodes
+abbrev pub recordRows : ℕ → ℕ → ℕ → Module → List Row
+recordRows greatest nodes place m =
     (5 at place when ltb greatest (m .kind))
     ∷ (6 at place when ltb (greatestParameter (m .kind)) (m .parameter))
     ∷ (7 at place when miswired nodes m)
     ∷ (8 at place when ltb longestDelay (m .delay))
-    ∷ (9 at place when driven (m .output))
     ∷ []
 
 -- over a node's byte, and whether it is driven

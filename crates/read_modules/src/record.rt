@@ -5,11 +5,8 @@ use sheet::Answer;
 use sheet::LAST_VALUE;
 use sheet::LONGEST_DELAY;
 use sheet::Module;
-use sheet::NODES;
 ghost use mathlib.Core.Path.{_≡_};
 ghost use lib.Dec.{leb, ltb};
-ghost use lib.ListN.{getD};
-ghost use mathlib.Core.Bool.{false};
 ghost use Rattle.level.specs.Choice.{if_then_else_};
 ghost use Rattle.sheet.specs.Outcome.{outcomeOf};
 ghost use Rattle.sheet.specs.Refusal.{first, greatestParameter, miswired};
@@ -52,15 +49,9 @@ fn wrong_nodes(m: Module, nodes: u16) -> bool
     wrong_input(2 < n, m.third, nodes)
 }
 
-// The refusal met in a record that stands at a place, after records that drive the flagged nodes.
-pub(crate) fn record_refusal(
-    m: Module,
-    at: u32,
-    greatest: u8,
-    nodes: u16,
-    driven: &[bool; NODES],
-) -> Answer
-    ensures { λ r. ⌜ outcomeOf r ≡ first (recordRows greatest nodes (λ v. getD (now (driven .entry)) v false) at m) ⌝ }
+// The refusal met in a record that stands at a place.
+pub(crate) fn record_refusal(m: Module, at: u32, greatest: u8, nodes: u16) -> Answer
+    ensures { λ r. ⌜ outcomeOf r ≡ first (recordRows greatest nodes at m) ⌝ }
 {
     if greatest < m.kind {
         return Answer::Refused(5, at, 0);
@@ -73,10 +64,6 @@ pub(crate) fn record_refusal(
     }
     if LONGEST_DELAY < m.delay {
         return Answer::Refused(8, at, 0);
-    }
-    let output = m.output as usize;
-    if driven[output] {
-        return Answer::Refused(9, at, 0);
     }
     Answer::Ran(0)
 }

@@ -64,7 +64,7 @@ fn module_records(e: Edition, s: &[u8], place: u32, nodes: u16) -> ModulesRead
         let ModuleRead::Whole(r) = sheet::module_at(e, s, at) else {
             return none_read(Answer::Refused(2, at, 0));
         };
-        let b = record_refusal(r, at, e.greatest, nodes, &driven);
+        let b = record_refusal(r, at, e.greatest, nodes);
         let Answer::Ran(_) = b else {
             return none_read(b);
         };

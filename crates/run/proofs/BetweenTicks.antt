@@ -34,7 +34,8 @@ use Rattle.pending.specs.Kept.{arrangement, keptIn, Sized}
 use Rattle.tick.specs.declared.Shape.{Shape}
 use Rattle.tick.specs.declared.Carried.{Carried}
 use Rattle.tick.specs.Rest.{Levels, Placed}
-use Rattle.tick.specs.Tick.{loadedIn, Workable, Worked}
+use Rattle.tick.specs.Tally.{givenIn}
+use Rattle.tick.specs.Tick.{loadedIn, settledIn, Workable, Worked}
 use Rattle.tick.proofs.Tables.{length-modules, length-drive}
 use Rattle.listing.specs.declared.Step.{Step}
 use Rattle.listing.specs.declared.Step.the-variants.{Next, Full, Crowded}
@@ -43,16 +44,17 @@ use Rattle.listing.specs.Step.{NoRoom, RecordsWritten, StepOf}
 use Rattle.listing.proofs.CellEnds.{cell-ends}
 use Rattle.listing.proofs.FreshLists.{fresh-few}
 use Rattle.listing.proofs.Holding.{nothing-yet, holding-length, all-have-end}
-use Rattle.load.proofs.Begun.{known-modules, driving}
+use Rattle.load.proofs.Begun.{known-modules, driving, apart}
 use Rattle.run.specs.Ready.{kept, Ready}
 
 -- before tick t: the arrays, the first event that is not before it, the changes pending and the records written
-pub record BetweenTicks (S : Sheet) (st : State arrangement) (horizon : ℕ) (buffer : List ℕ) (t next due n : ℕ) (values last shown starts store listing places : List ℕ) : Type 0 where
+pub record BetweenTicks (S : Sheet) (st : State arrangement) (horizon : ℕ) (buffer table : List ℕ) (modules t next due n : ℕ) (values given last shown starts store listing places : List ℕ) : Type 0 where
   pub within : t ≤ horizon
   pub driven : next ≡ nextEvent (S .drive) t
-  pub state : kept values last shown starts store due ≡ stateAt arrangement S horizon st t
+  pub state : kept values (givenIn table modules values given) last shown starts store due ≡ stateAt arrangement S horizon st t
   pub few : due ≤ pendingLimit
   pub values-levels : Levels values
+  pub given-levels : Levels given
   pub last-levels : Levels last
   pub shown-size : length shown ≡ 256
   pub store-size : Sized store
@@ -67,13 +69,13 @@ none-before drive zero = refl
 none-before drive (suc n) = rw (← none-before drive n, le-ltb (eventIn drive n .tick) 0 (omega arith))
 
 -- the listing is as long as it was
-pub same-length-so-far : {S : Sheet} {st : State arrangement} {horizon : ℕ} {buffer : List ℕ} {t next due n : ℕ} {values last shown starts store now places : List ℕ}
-    → BetweenTicks S st horizon buffer t next due n values last shown starts store now places → length now ≡ length buffer
+pub same-length-so-far : {S : Sheet} {st : State arrangement} {horizon : ℕ} {buffer table : List ℕ} {modules t next due n : ℕ} {values given last shown starts store now places : List ℕ}
+    → BetweenTicks S st horizon buffer table modules t next due n values given last shown starts store now places → length now ≡ length buffer
 same-length-so-far G = holding-length (G .holding)
 
-same-state : {v v′ l l′ d d′ s p p′ : List ℕ} → v ≡ v′ → l ≡ l′ → d ≡ d′ → p ≡ p′
-    → _≡_ {A = State arrangement} (record { values = v; last = l; shown = d; starts = s; pending = p }) (record { values = v′; last = l′; shown = d′; starts = s; pending = p′ })
-same-state e f g h = rw (e, f, g, h)
+same-state : {v v′ g g′ l l′ d d′ s p p′ : List ℕ} → v ≡ v′ → g ≡ g′ → l ≡ l′ → d ≡ d′ → p ≡ p′
+    → _≡_ {A = State arrangement} (record { values = v; given = g; last = l; shown = d; starts = s; pending = p }) (record { values = v′; given = g′; last = l′; shown = d′; starts = s; pending = p′ })
+same-state e i f g h = rw (e, i, f, g, h)
 
 module _ {S : Sheet} {table delays times nodes levels watched : List ℕ} {st : State arrangement} {horizon : ℕ} {shape : Shape} {total : ℕ}
     (R : Ready S table delays times nodes levels watched st horizon shape total) where
@@ -101,10 +103,10 @@ module _ {S : Sheet} {table delays times nodes levels watched : List ℕ} {st : 
   among-watched : (t : ℕ) → t ≤ horizon → (r : Record) → List·Memᴰ r (below t) → List·Memᴰ (r .node) (take total watched)
   among-watched t h r m = rw (R .watched-there) (listed-shown S cells t r .0 (rw (below-listed t h) at m) .watched)
 
-  pub start : (values last shown starts store : List ℕ) → st ≡ kept values last shown starts store 0 → Sized store → (buffer : List ℕ)
-      → BetweenTicks S st horizon buffer 0 0 0 0 values last shown starts store buffer (replicate mostNodes 0)
+  pub start : (values given last shown starts store : List ℕ) → st ≡ kept values (givenIn table (shape .modules) values given) last shown starts store 0 → Levels given → Sized store → (buffer : List ℕ)
+      → BetweenTicks S st horizon buffer table (shape .modules) 0 0 0 0 values given last shown starts store buffer (replicate mostNodes 0)
   unfolding stateAt recordsBelow
-  start values last shown starts store e size buffer =
+  start values given last shown starts store e levels-given size buffer =
       let b = R .begun in
       record {
         within = omega arith;
@@ -112,6 +114,7 @@ module _ {S : Sheet} {table delays times nodes levels watched : List ℕ} {st : 
         state = sym e;
         few = omega arith;
         values-levels = rw (ap (λ x. x .values) (sym e)) (record { size = b .values-size; each = b .levels });
+        given-levels = levels-given;
         last-levels = rw (ap (λ x. x .last) (sym e)) (record { size = b .last-size; each = b .last-levels });
         shown-size = rw (ap (λ x. x .shown) (sym e)) (b .shown-size);
         store-size = size;
@@ -134,8 +137,8 @@ module _ {S : Sheet} {table delays times nodes levels watched : List ℕ} {st : 
           left = bytes ∙ ap (λ rs. bufferAfter rs buffer) (all-have-end watched t total (below t) (among-watched t h) ∙ ap (withEnds (λ v. t)) (below-listed t h) ∙ cell-ends cells t S (R .accepted) ∙ sym (ap (λ w. w .records) e));
         }
 
-  module _ {buffer : List ℕ} {t next due n : ℕ} {values last shown starts store now places : List ℕ}
-      (G : BetweenTicks S st horizon buffer t next due n values last shown starts store now places) where
+  module _ {buffer : List ℕ} {t next due n : ℕ} {values given last shown starts store now places : List ℕ}
+      (G : BetweenTicks S st horizon buffer table (shape .modules) t next due n values given last shown starts store now places) where
     -- the count of records is a number of 32 bits
     pub few-records : n < 4294967296
     few-records = omega (arith, G .within, G .bounded, R .few-ticks)
@@ -154,7 +157,7 @@ module _ {S : Sheet} {table delays times nodes levels watched : List ℕ} {st : 
           let o = s .owing .owed x in-held in
           omega (arith, delayed-listed S (o .0) (o .2 .delayed), ap (λ (y : Change). y .position) (o .3), modules-counted)
 
-      pub workable : Workable shape tables horizon t values last starts store (record { next = next; pending = due })
+      pub workable : Workable shape tables horizon t values given last starts store (record { next = next; pending = due })
       workable =
           record {
             few-modules = omega (arith, modules-counted, R .accepted .modules);
@@ -163,12 +166,14 @@ module _ {S : Sheet} {table delays times nodes levels watched : List ℕ} {st : 
             known = rw (R .modules) (known-modules S (R .accepted));
             starts-kept = rw (R .modules, ap (λ x. x .starts) (G .state)) (standing .starts);
             driving = rw (R .drive) (driving S (R .accepted));
+            apart = rw (R .drive, R .modules) (apart S (R .accepted));
             next = rw (R .drive) (G .driven);
             few-pending = G .few;
             placed = due-placed;
             below = h;
             few-ticks = R .few-ticks;
             values-levels = G .values-levels;
+            kept-levels = G .given-levels;
             last-levels = G .last-levels;
             store-size = G .store-size;
           }
@@ -177,7 +182,7 @@ module _ {S : Sheet} {table delays times nodes levels watched : List ℕ} {st : 
           delayed-most = delayed-at-most S
 
       -- A tick, from what is kept before it and what its work makes of that.
-      module _ {values′ last′ store′ : List ℕ} {after : Carried} (W : Worked tables horizon t values last (keptIn store due) values′ last′ store′ after) where
+      module _ {values′ given′ last′ store′ : List ℕ} {after : Carried} (W : Worked tables horizon t (settledIn table (shape .modules) values given) last (keptIn store due) (settledIn table (shape .modules) values′ given′) last′ store′ after) (L : Levels given′) where
         -- the records of the tick
         abbrev these : List Record
         these = fresh t values′ shown (take total watched)
@@ -189,11 +194,11 @@ module _ {S : Sheet} {table delays times nodes levels watched : List ℕ} {st : 
         same-tables : tables ≡ bare
         same-tables = rw (R .drive, R .modules, R .delayed)
 
-        worked : Worked bare horizon t values last (keptIn store due) values′ last′ store′ after
-        worked = subst (λ l. Worked l horizon t values last (keptIn store due) values′ last′ store′ after) same-tables W
+        worked : Worked bare horizon t (settledIn table (shape .modules) values given) last (keptIn store due) (settledIn table (shape .modules) values′ given′) last′ store′ after
+        worked = subst (λ l. Worked l horizon t (settledIn table (shape .modules) values given) last (keptIn store due) (settledIn table (shape .modules) values′ given′) last′ store′ after) same-tables W
 
         abbrev start-of-tick : State arrangement
-        start-of-tick = kept values last shown starts store due
+        start-of-tick = kept values (givenIn table (shape .modules) values given) last shown starts store due
 
         these-records : these ≡ tickOf arrangement S horizon t (stateAt arrangement S horizon st t) .records
         these-records = rw (← G .state, R .watched-there, worked .values-worked)
@@ -263,13 +268,13 @@ module _ {S : Sheet} {table delays times nodes levels watched : List ℕ} {st : 
           shown-next : shown′ ≡ tickOf arrangement S horizon t start-of-tick .state .shown
           shown-next = D .now-shown ∙ rw (R .watched-there, worked .values-worked)
 
-          state-next : kept values′ last′ shown′ starts store′ (after .pending) ≡ stateAt arrangement S horizon st (suc t)
+          state-next : kept values′ (givenIn table (shape .modules) values′ given′) last′ shown′ starts store′ (after .pending) ≡ stateAt arrangement S horizon st (suc t)
           unfolding stateAt
           state-next =
-              same-state (worked .values-worked) (worked .last-worked) shown-next (worked .pending-worked)
+              same-state (worked .values-worked) (worked .given-worked) (worked .last-worked) shown-next (worked .pending-worked)
               ∙ ap (λ x. tickOf arrangement S horizon t x .state) (G .state)
 
-          next-tick : BetweenTicks S st horizon buffer (suc t) (after .next) (after .pending) count values′ last′ shown′ starts store′ now′ places′
+          next-tick : BetweenTicks S st horizon buffer table (shape .modules) (suc t) (after .next) (after .pending) count values′ given′ last′ shown′ starts store′ now′ places′
           next-tick =
               record {
                 within = h;
@@ -277,6 +282,7 @@ module _ {S : Sheet} {table delays times nodes levels watched : List ℕ} {st : 
                 state = state-next;
                 few = few;
                 values-levels = W .values-levels;
+                given-levels = L;
                 last-levels = W .last-levels;
                 shown-size = D .shown-size;
                 store-size = W .store-size;
@@ -290,7 +296,7 @@ module _ {S : Sheet} {table delays times nodes levels watched : List ℕ} {st : 
               here u (no d) l = G .passed u (omega arith)
 
         pub told-next : {x : Step} {count : ℕ} (now′ shown′ places′ : List ℕ) → x ≡ Next count → Told x now′ shown′ places′
-            → BetweenTicks S st horizon buffer (suc t) (after .next) (after .pending) count values′ last′ shown′ starts store′ now′ places′
+            → BetweenTicks S st horizon buffer table (shape .modules) (suc t) (after .next) (after .pending) count values′ given′ last′ shown′ starts store′ now′ places′
         told-next now′ shown′ places′ e l =
             let (fits, few, done) = subst (λ x. Told x now′ shown′ places′) e l in
             next-tick fits few done

@@ -14,9 +14,9 @@ use Rattle.tick.specs.declared.Shape.{Shape}
 use Rattle.tick.specs.Tables.{modulesIn, driveIn}
 
 -- the state in the run's arrays, with so many changes pending
-abbrev pub kept : List ℕ → List ℕ → List ℕ → List ℕ → List ℕ → ℕ → State arrangement
-kept values last shown starts store count =
-    record { values = values; last = last; shown = shown; starts = starts; pending = keptIn store count }
+abbrev pub kept : List ℕ → List ℕ → List ℕ → List ℕ → List ℕ → List ℕ → ℕ → State arrangement
+kept values given last shown starts store count =
+    record { values = values; given = given; last = last; shown = shown; starts = starts; pending = keptIn store count }
 
 pub record Ready (S : Sheet) (table delays times nodes levels watched : List ℕ)
     (st : State arrangement) (horizon : ℕ) (shape : Shape) (count : ℕ) : Type 0 where

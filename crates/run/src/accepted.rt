@@ -13,8 +13,11 @@ use sheet::EVENTS;
 use sheet::MODULES;
 use sheet::Module;
 use sheet::NODES;
+use tick::COUNTS;
 use tick::Shape;
 use tick::TABLE;
+use tick::load_counts;
+use tick::load_flags;
 use tick::load_starts;
 ghost use mathlib.Core.Path.{_≡_};
 ghost use Prim.Native.Nat.{_<_, _≤_};
@@ -40,9 +43,6 @@ pub(crate) fn run_accepted(
 {
     let counts = contents.counts;
     let modules = counts.modules as usize;
-    let mut table = [0u8; TABLE];
-    let mut delays = [0u16; MODULES];
-    load_modules(records, modules, &mut table, &mut delays);
     let mut times = [0u32; EVENTS];
     let mut nodes = [0u8; EVENTS];
     let mut levels = [Level::LOW; EVENTS];
@@ -54,23 +54,32 @@ pub(crate) fn run_accepted(
         &mut nodes,
         &mut levels,
     );
+    let mut table = [0u8; TABLE];
+    let mut delays = [0u16; MODULES];
+    load_modules(records, modules, &mut table, &mut delays);
     let mut values = [Level::LOW; NODES];
     let initial = contents.nodes;
     load_values(initial, counts.nodes as usize, &mut values);
     let mut last = [Level::LOW; MODULES];
     load_last(records, modules, &values, &mut last);
     let listed = contents.modules;
-    let shape = Shape {
-        modules,
-        delayed: count_delayed(listed, modules),
-        events: counts.events,
-    };
+    let delayed = count_delayed(listed, modules);
     let watched = contents.watched;
     let mut shown = [NOT_SHOWN; NODES];
     let mut store = pending::empty();
     let gates = Level::tables();
+    let shared = load_flags(&mut table, modules);
+    let mut given = last;
+    let mut tally = [0u16; COUNTS];
+    load_counts(&table, modules, &given, &mut tally);
     let mut starts = [0u16; MODULES];
     load_starts(&table, modules, &mut starts);
+    let shape = Shape {
+        modules,
+        delayed,
+        shared,
+        events: counts.events,
+    };
     ticks(
         shape,
         horizon,
@@ -84,6 +93,8 @@ pub(crate) fn run_accepted(
         &watched,
         counts.watched as usize,
         &mut values,
+        &mut given,
+        &mut tally,
         &mut last,
         &mut shown,
         &mut store,

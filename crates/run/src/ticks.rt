@@ -9,6 +9,7 @@ use sheet::EVENTS;
 use sheet::MODULES;
 use sheet::NODES;
 use sheet::WATCHED;
+use tick::COUNTS;
 use tick::Carried;
 use tick::Shape;
 use tick::TABLE;
@@ -20,6 +21,8 @@ ghost use Rattle.sheet.specs.Outcome.{outcomeOf};
 ghost use Rattle.sheet.specs.Sheet.{Sheet};
 ghost use Rattle.network.specs.Run.{ranSheet, Leaves};
 ghost use Rattle.pending.specs.Kept.{Sized};
+ghost use Rattle.tick.specs.Rest.{Levels};
+ghost use Rattle.tick.specs.Tally.{givenIn, Tallied};
 ghost use Rattle.run.specs.Ready.{kept, Ready};
 
 // For every sheet that the arrays are ready for, the run is that sheet's.
@@ -36,6 +39,8 @@ pub(crate) fn ticks(
     watched: &[u8; WATCHED],
     count: usize,
     values: &mut [u8; NODES],
+    given: &mut [u8; MODULES],
+    counts: &mut [u16; COUNTS],
     last: &mut [u8; MODULES],
     shown: &mut [u8; NODES],
     store: &mut Store,
@@ -43,12 +48,15 @@ pub(crate) fn ticks(
 ) -> Answer
     requires { ⌜ ((S : Sheet)
         × Ready S (now table) (now delays) (now times) (now nodes) (now levels) (now watched)
-        (kept (now values) (now last) (now shown) (now starts) (now store) 0) horizon shape count)
-        × (now gates ≡ tables) × Sized (now store) ⌝ }
+        (kept (now values) (givenIn (now table) (shape .modules) (now values) (now given)) (now last) (now shown) (now starts) (now store) 0)
+        horizon shape count)
+        × (now gates ≡ tables) × Sized (now store) × Levels (now given)
+        × Tallied (now table) (shape .modules) (shape .shared) (now given) (now counts) ⌝ }
     ensures { λ r. ⌜ ((S : Sheet)
         → Ready S (now (table .entry)) (now (delays .entry)) (now (times .entry)) (now (nodes .entry)) (now (levels .entry))
         (now (watched .entry))
-        (kept (now (values .entry)) (now (last .entry)) (now (shown .entry)) (now (starts .entry)) (now (store .entry)) 0)
+        (kept (now (values .entry)) (givenIn (now (table .entry)) (shape .modules) (now (values .entry)) (now (given .entry)))
+        (now (last .entry)) (now (shown .entry)) (now (starts .entry)) (now (store .entry)) 0)
         horizon shape count
         → Leaves (ranSheet S horizon (length (now (listing .entry)))) (now (listing .entry)) (outcomeOf r) (now (listing .exit))) ⌝ }
 {
@@ -71,6 +79,8 @@ pub(crate) fn ticks(
             nodes,
             levels,
             values,
+            given,
+            counts,
             last,
             store,
             before,

@@ -32,6 +32,19 @@ ring-0 : checked firstEdition (ring 0) ≡ refused 18 0 0
 unfolding ring checkedBy rows bytesRows sheetOf first each anyBelow leadsOver notAboveEvent notAboveWatched
 ring-0 = refl
 
+-- two modules on one node, a buffer of delay 1 and an inverter of delay 0: both checks accept them where the node has an initial value, and
+-- to 10 it is driven
+abbrev pub shared : ℕ → List ℕ
+shared byte =
+    2 ∷ 0 ∷ 4 ∷ byte
+    ∷ 2 ∷ 0 ∷ 1 ∷ 0 ∷ 1 ∷ 0 ∷ 0 ∷ 1 ∷ 0 ∷ 2 ∷ 0 ∷ 1 ∷ 0 ∷ 0 ∷ 0 ∷ 0
+    ∷ 1 ∷ 0 ∷ 0 ∷ 0 ∷ 0 ∷ 0 ∷ 0 ∷ 1
+    ∷ 1 ∷ 0 ∷ 1 ∷ []
+
+shared-accepted : (checked firstEdition (shared 0) ≡ finished 0) × (checkedStrictly firstEdition (shared 0) ≡ finished 0) × (checked firstEdition (shared 4) ≡ refused 10 1 0)
+unfolding checkedBy rows bytesRows sheetOf first each anyBelow leadsOver notAboveEvent notAboveWatched
+shared-accepted = (refl, refl, refl)
+
 -- an input without an event, to which nothing is watched: a strict check alone refuses it
 undriven : List ℕ
 undriven = 1 ∷ 0 ∷ 4 ∷ 0 ∷ 0 ∷ 0 ∷ 0 ∷ 0 ∷ 0 ∷ []

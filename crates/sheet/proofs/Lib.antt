@@ -2,6 +2,7 @@
 pub mod Computed
 pub mod Tests
 pub mod Each
+pub mod Chosen
 pub mod Grouped
 pub mod Listed
 pub mod Parts

@@ -1,5 +1,6 @@
--- Document 01, "Where each refusal is met", with document 02's W-203: refusals 2 to 18, row by row in the order of the table, and the
--- answer of a check. A strict check has the row of 15; a check that is not strict, and so a run, has all the others.
+-- Document 01, "Where each refusal is met", with document 02's W-203 and W-209: refusals 2 to 18, row by row in the order of the table,
+-- and the answer of a check. A strict check has the row of 15; a check that is not strict, and so a run, has all the others. A node may
+-- have several drivers, so the row of 9 is there no more.
 use mathlib.Core.Bool.{Bool, true, false, _&&_, _||_, not}
 use mathlib.Core.List.{List, [], _∷_, _++_}
 use Prim.Native.Nat.{ℕ, zero, suc, _+_, _*_}
@@ -18,7 +19,7 @@ use Rattle.sheet.specs.Layout.{countSize, eventSize, nodesCounted, nodeP
 use Rattle.sheet.specs.Layout.{modulesPlace, modulesCounted, modulePlace, moduleAt, drivePlace, eventsCounted, eventPlace, eventAt}
 use Rattle.sheet.specs.Layout.{watchedPlace, watchedCounted, watchPlace, watchedAt, sheetEnd, sheetOf}
 use Rattle.sheet.specs.Outcome.{Outcome, finished, refused}
-use Rattle.sheet.specs.Wiring.{usedInputs, unusedInputs, drivenBy, isDriven, isInput, drivenAtStart}
+use Rattle.sheet.specs.Wiring.{usedInputs, unusedInputs, isDriven, isInput, drivenAtStart}
 use Rattle.sheet.specs.Loop.{onLoop}
 
 infix 20 _at_when_
@@ -57,8 +58,7 @@ abbrev pub miswired : ℕ → Module → Bool
 miswired nodes m = anyOf (leb nodes) (m .output ∷ usedInputs m) || anyOf (ltb 0) (unusedInputs m)
 
 -- The rest goes by the edition and the sheet that stands in the bytes.
--- a module: kind above the edition's greatest; parameter not allowed; wrong wiring; delay above 10,000;
--- output already driven by an earlier record
+-- a module: kind above the edition's greatest; parameter not allowed; wrong wiring; delay above 10,000
 abbrev pub moduleRows : Edition → List ℕ → ℕ → List Row
 moduleRows e s m =
     (2 at modulePlace e s m when endsInside s (modulePlace e s m) (e .size))
@@ -66,7 +66,6 @@ moduleRows e s m =
     ∷ (6 at modulePlace e s m when ltb (greatestParameter (moduleAt e s m .kind)) (moduleAt e s m .parameter))
     ∷ (7 at modulePlace e s m when miswired (nodesCounted s) (moduleAt e s m))
     ∷ (8 at modulePlace e s m when ltb longestDelay (moduleAt e s m .delay))
-    ∷ (9 at modulePlace e s m when drivenBy (sheetOf e s) m (moduleAt e s m .output))
     ∷ []
 
 -- after the modules: driven node with byte 4, or undriven node with 0 to 3

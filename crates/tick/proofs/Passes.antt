@@ -16,10 +16,10 @@ use Rattle.tick.specs.Tick.{scheduled}
 use Rattle.tick.proofs.Tables.{module-at}
 
 -- one change more, at the end
-pub giveAll-more : (modules : List Module) (changes : List Change) (x : Change) (values : List ℕ) → giveAll modules (changes ++ x ∷ []) values ≡ give (moduleIn modules (x .position)) (x .value) (giveAll modules changes values)
+pub giveAll-more : (modules : List Module) (changes : List Change) (x : Change) (st : Settled) → giveAll modules (changes ++ x ∷ []) st ≡ give modules (x .position) (x .value) (giveAll modules changes st)
 unfolding giveAll
-giveAll-more modules [] x values = refl
-giveAll-more modules (y ∷ changes) x values = giveAll-more modules changes x (give (moduleIn modules (y .position)) (y .value) values)
+giveAll-more modules [] x st = refl
+giveAll-more modules (y ∷ changes) x st = giveAll-more modules changes x (give modules (y .position) (y .value) st)
 
 module _ (modules : List Module) (from : ℕ) (st : Settled) where
   pub none-settled : st ≡ settle modules from (from - from) st

@@ -69,6 +69,12 @@ sets-at (v ∷ vs) l p (suc i) h b = rw next (sets-at vs (set l p v) (suc p) i (
 abbrev bytes : Module → List ℕ
 bytes m = m .kind ∷ m .parameter ∷ m .output ∷ m .first ∷ m .second ∷ m .third ∷ []
 
+-- another table with the same records
+pub modules-same : (table table′ delays : List ℕ) (n : ℕ) → ((k f : ℕ) → f < 6 → tableAt table k f ≡ tableAt table′ k f) → modulesIn table delays n ≡ modulesIn table′ delays n
+unfolding modulesIn
+modules-same table table′ delays n same =
+    each-same n _ _ (λ k h. rw (same k 0 (omega arith), same k 1 (omega arith), same k 2 (omega arith), same k 3 (omega arith), same k 4 (omega arith), same k 5 (omega arith)))
+
 -- a module put to position k
 module _ {table delays table′ delays′ : List ℕ} {k : ℕ} {m : Module} (p : ModulePut table delays k m table′ delays′) where
   pub table-same-size : length table′ ≡ length table

@@ -44,7 +44,7 @@ fn schedule_one(
         (scheduled (now (last .entry)) (keptIn (now (store .entry)) count)) k)
         × (r ≤ count + 1) × Sized (now (store .exit)) × Levels (now (last .exit)) ⌝ }
 {
-    let value = comes_to(gates, table, starts, k, values, &*last);
+    let value = comes_to(gates, table, starts, k, values, last[k]);
     if value == last[k] {
         return count;
     }

@@ -1,6 +1,7 @@
 // The modules' part of a tick, over arrays that the run lends: the drive, the changes due, the modules of delay zero, and what the
 // delayed ones schedule.
 mod contribution;
+mod counts;
 mod delayed;
 mod due;
 mod events;
@@ -10,7 +11,9 @@ mod zero_delay;
 use crate::delayed::schedule_all;
 use crate::due::give_due;
 use crate::events::drive_all;
+pub use crate::load::load_counts;
 pub use crate::load::load_event;
+pub use crate::load::load_flags;
 pub use crate::load::load_module;
 pub use crate::load::load_starts;
 use crate::zero_delay::settle_all;
@@ -21,15 +24,26 @@ use sheet::NODES;
 ghost use mathlib.Core.Path.{_≡_};
 ghost use Rattle.pending.specs.Kept.{keptIn};
 ghost use Rattle.level.specs.Table.{tables};
-ghost use Rattle.tick.specs.Tick.{Workable, Worked, loadedIn};
+ghost use Rattle.tick.specs.Rest.{Levels};
+ghost use Rattle.tick.specs.Tally.{Tallied};
+ghost use Rattle.tick.specs.Tick.{Workable, Worked, loadedIn, settledIn};
 
 // The bytes of the modules' table, 8 for each.
 pub const TABLE: usize = 8 * MODULES;
 
-// How many modules there are, how many of them are delayed, and how many events.
+// The flag in the row of a module that drives its node alone, and of one that does not.
+pub const ALONE: u8 = 0;
+
+pub const SHARED: u8 = 1;
+
+// The counts of what drivers give, one for each node and value.
+pub const COUNTS: usize = 4 * NODES;
+
+// How many modules there are, how many of them are delayed, whether a node has several drivers, and how many events there are.
 pub struct Shape {
     pub modules: usize,
     pub delayed: usize,
+    pub shared: bool,
     pub events: u16,
 }
 
@@ -52,23 +66,48 @@ pub fn work(
     nodes: &[u8; EVENTS],
     levels: &[u8; EVENTS],
     values: &mut [u8; NODES],
+    kept: &mut [u8; MODULES],
+    counts: &mut [u16; COUNTS],
     last: &mut [u8; MODULES],
     store: &mut Store,
     before: Carried,
 ) -> Carried
     requires { ⌜ Workable shape (loadedIn (now table) (now delays) (now ticks) (now nodes) (now levels) shape) horizon t
-        (now values) (now last) (now starts) (now store) before
-        × (now gates ≡ tables) ⌝ }
+        (now values) (now kept) (now last) (now starts) (now store) before
+        × (now gates ≡ tables) × Tallied (now table) (shape .modules) (shape .shared) (now kept) (now counts) ⌝ }
     ensures { λ r. ⌜ Worked
         (loadedIn (now (table .entry)) (now (delays .entry)) (now (ticks .entry)) (now (nodes .entry)) (now (levels .entry)) shape)
-        horizon t (now (values .entry)) (now (last .entry)) (keptIn (now (store .entry)) (before .pending))
-        (now (values .exit)) (now (last .exit)) (now (store .exit)) r ⌝ }
+        horizon t (settledIn (now (table .entry)) (shape .modules) (now (values .entry)) (now (kept .entry))) (now (last .entry))
+        (keptIn (now (store .entry)) (before .pending))
+        (settledIn (now (table .entry)) (shape .modules) (now (values .exit)) (now (kept .exit))) (now (last .exit)) (now (store .exit)) r
+        × Levels (now (kept .exit))
+        × Tallied (now (table .entry)) (shape .modules) (shape .shared) (now (kept .exit)) (now (counts .exit)) ⌝ }
 {
     let delayed = shape.delayed;
     let modules = shape.modules;
+    let shared = shape.shared;
     let next = drive_all(ticks, nodes, levels, shape.events, before.next, t, values);
-    let kept = give_due(table, t, store, before.pending, values);
-    settle_all(gates, table, starts, delayed, modules, values, last);
+    let left = give_due(
+        shared,
+        table,
+        t,
+        store,
+        before.pending,
+        values,
+        kept,
+        counts,
+    );
+    settle_all(
+        gates,
+        shared,
+        table,
+        starts,
+        delayed,
+        modules,
+        values,
+        kept,
+        counts,
+    );
     let count = schedule_all(
         gates,
         table,
@@ -80,7 +119,7 @@ pub fn work(
         &*values,
         last,
         store,
-        kept,
+        left,
     );
     Carried {
         next,

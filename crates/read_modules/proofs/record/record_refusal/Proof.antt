@@ -1,10 +1,9 @@
 -- `read_modules::record::record_refusal` meets its contract: the rows of the record, one after the other. Assumes nothing.
-use mathlib.Core.Bool.{false}
 use mathlib.Core.Path.{_≡_, sym, _∙_}
 use Prim.Native.Nat.{ℕ}
 use borrow.Author.Needs.{needs}
 use borrow.Author.Tests.{lt-ltb, le-ltb}
-use lib.ListN.{getD, drop}
+use lib.ListN.{drop}
 use Rattle.sheet.specs.Outcome.{Outcome}
 use Rattle.sheet.specs.Refusal.{first}
 use Rattle.read_modules.specs.Record.{recordRows}
@@ -13,7 +12,7 @@ use Rattle.read_modules.proofs.record.record_refusal.Tie as tie
 
 -- the first row met of those that are left after the first k
 abbrev After : tie.Start → ℕ → Outcome
-After a k = first (drop k (recordRows (a .args .greatest) (a .args .nodes) (λ v. getD (a .args .driven .now) v false) (a .args .at) (a .args .m)))
+After a k = first (drop k (recordRows (a .args .greatest) (a .args .nodes) (a .args .at) (a .args .m)))
 
 -- the first k are not met
 abbrev Past : tie.Start → ℕ → Type 0
@@ -30,10 +29,6 @@ past-parameter c = past-kind (c .before .before .before) ∙ simp (← c .before
 past-nodes : (c : tie.Else3) → Past (c .before .before .before .before .before .before .before) 3
 unfolding first
 past-nodes c = past-parameter (c .before .before) ∙ simp (← c .before .wrong-nodes .ensures, c .if3 .left)
-
-past-delay : (c : tie.Else4) → Past (c .before .before .before .before .before .before .before .before .before) 4
-unfolding first
-past-delay c = past-nodes (c .before .before) ∙ simp (le-ltb _ _ (c .if4 .left))
 
 returns : tie.Need-returns
 unfolding first
@@ -57,31 +52,9 @@ returns-4 : tie.Need-returns-4
 unfolding first
 returns-4 c = sym (past-nodes (c .before .before) ∙ simp (lt-ltb _ _ (c .if4 .taken)))
 
-cast-output : tie.Need-cast-output
-cast-output c = search needs
-
-element-copy-out-if5 : tie.Need-element-copy-out-if5
-element-copy-out-if5 c = search needs
-
 returns-5 : tie.Need-returns-5
 unfolding first
-returns-5 c = sym (past-delay (c .before .before .before) ∙ simp (c .if5 .taken))
-
-returns-6 : tie.Need-returns-6
-unfolding first
-returns-6 c = sym (past-delay (c .before .before .before) ∙ simp (c .if5 .left))
+returns-5 c = sym (past-nodes (c .before .before) ∙ simp (le-ltb _ _ (c .if4 .left)))
 
 pub record-refusal-spec : {M : Type 1} → statement M
-record-refusal-spec =
-    tie.close
-    (tie.spec
-    returns
-    greatest-parameter-requires
-    returns-2
-    wrong-nodes-requires
-    returns-3
-    returns-4
-    cast-output
-    element-copy-out-if5
-    returns-5
-    returns-6)
+record-refusal-spec = tie.close (tie.spec returns greatest-parameter-requires returns-2 wrong-nodes-requires returns-3 returns-4 returns-5)

@@ -93,20 +93,19 @@ none-read-requires-3 c κs = search needs
 
 -- the answer about a record is that of its rows
 told : (c : tie.After-record-refusal Inv-loop μ-loop)
-    → let l = c .before .before .before .before .before .before .before in
+    → let l = c .before .before .before .before .before .before in
     let args = l .before .before .before .before .before .before .before .before .args in
     outcomeOf (c .record-refusal .result) ≡ first (moduleRows (args .e) (args .s .now) (l .loop .m))
 told c =
-    let r = c .before .before .before in
+    let r = c .before .before in
     let l = r .before .before .before .before in
     let start = l .before .before .before .before .before .before .before .before in
-    module-whole (start .args .e) (start .args .s .now) (l .loop .inv) (sym (r .r .given .1) ∙ r .before .before .module-at .ensures) (start .pre .1)
-    (omega (arith, c .before .before .known-told .given)) (c .record-refusal .ensures)
+    module-whole (start .args .e) (start .args .s .now) (l .loop .inv) (sym (r .r .given .1) ∙ r .before .before .module-at .ensures) (start .pre .1) (c .record-refusal .ensures)
 
 returns-3 : tie.Need-returns-3 Inv-loop μ-loop
 returns-3 c =
     let a = c .before .before .before in
-    let t = a .before .before .before .before .before .before in
+    let t = a .before .before .before .before .before in
     let start = t .before .before .before .before .before .before .before .before .before in
     let e = start .args .e in
     let s = start .args .s .now in
@@ -143,14 +142,14 @@ loop-less c = search needs
 loop-again : tie.Need-loop-again Inv-loop μ-loop
 loop-again c =
     let a = c .before .before .before .before in
-    let r = a .before .before .before in
+    let r = a .before .before in
     let l = r .before .before .before .before in
     let start = l .before .before .before .before .before .before .before .before in
     let e = start .args .e in
     let s = start .args .s .now in
     let fine = passed (moduleRows e s (l .loop .m)) _ (told a) _ (c .before .before .enum-told4 .given .1) in
     one-more-read e s (l .loop .inv) (sym (r .r .given .1) ∙ r .before .before .module-at .ensures) (r .before .before .before .loop-test .taken)
-    (omega (arith, a .before .before .known-told .given)) (omega (arith, start .fits)) fine
+    (omega (arith, a .before .known-told .given)) (omega (arith, start .fits)) fine
 
 returns-4 : tie.Need-returns-4 Inv-loop μ-loop
 returns-4 c =

@@ -7,12 +7,12 @@ use Rattle.tick.proofs.contribution.comes_to.Statement.{statement}
 use Rattle.tick.proofs.contribution.comes_to.Tie as tie
 
 rule-requires : tie.Need-rule-requires
-rule-requires c κs = let p = c .before .before .before .pre in (omega (arith, p .0), p .1, rw (add-zero) at (p .2), p .3, p .4 .each _, rw (add-zero) at (p .5))
+rule-requires c κs = let p = c .before .before .pre in (omega (arith, p .0), p .1, rw (add-zero) at (p .2), p .3, p .4, rw (add-zero) at (p .5))
 
 returns : tie.Need-returns
 returns c =
-    let a = c .before .before .before .before .args in
-    (λ delays n h. rw (comes-now (a .table .now) delays (a .values .now) (a .last .now) n (a .k) h) (c .rule .ensures .0), c .rule .ensures .1)
+    let a = c .before .before .before .args in
+    (λ delays n h last e. rw (comes-now (a .table .now) delays (a .values .now) last n (a .k) h, e) (c .rule .ensures .0), c .rule .ensures .1)
 
 pub comes-to-spec : {M : Type 1} → statement M
-comes-to-spec = tie.close (tie.spec (λ c. search needs) (λ c. search needs) (λ c. search needs) (λ c. search needs) rule-requires returns)
+comes-to-spec = tie.close (tie.spec (λ c. search needs) (λ c. search needs) (λ c. search needs) rule-requires returns)
