@@ -17,9 +17,9 @@ extern "C" {
 
 /*
  * answer[0], the number. A call answers TIMING_FINISHED, or the first refusal that the sheet, read
- * front to back, or the run, the report or the conversion meets. A strict check gives 0 and 2 to 18, a check
- * these but 15, a run 0 to 20 but 15, a report of pulses what a run gives, 24 and 25, a conversion what a
- * check gives and 23, to the first edition 22 as well, describing 0 and 21.
+ * front to back, or the run, the report or the conversion meets. A strict check gives 0 and 2 to 18 but 9, a
+ * check these but 15, a run 0 to 20 but 9 and 15, a report of pulses what a run gives, 24 and 25, a conversion
+ * what a check gives and 23, to the first edition 22 as well, describing 0 and 21. No call gives 9 any more.
  */
 enum timing_number {
     /* the sheet is accepted, the run has reached its horizon, or report, sheet or text is written */
@@ -36,9 +36,9 @@ enum timing_number {
     TIMING_PARAMETER_NOT_ALLOWED = 6, /* a module: parameter not allowed */
     TIMING_WRONG_WIRING = 7,          /* a module: output or used input is no node, or unused input not 0 */
     TIMING_DELAY_ABOVE = 8,           /* a module: delay above 10,000 */
-    TIMING_ALREADY_DRIVEN = 9,        /* a module: output already driven by an earlier record */
+    TIMING_ALREADY_DRIVEN = 9,        /* not given: several modules may drive a node (document 02, W-209) */
 
-    /* After the modules; the place is the least such node. */
+    /* After the modules; the place is the least such node. One that several modules drive is driven. */
     TIMING_DRIVEN_OR_NOT = 10, /* a driven node with byte 4, or an undriven node with 0 to 3 */
 
     /* The place is the event's first byte. */
@@ -113,9 +113,9 @@ enum timing_value {
 #define TIMING_GREATEST_WIDTH 10000
 /* the changes that may be pending after a tick: */
 #define TIMING_PENDING_LIMIT 4096
-/* bytes that no accepted sheet of the first edition passes, and of the second: */
-#define TIMING_LONGEST_SHEET 8449
-#define TIMING_LONGEST_SHEET_2 8704
+/* bytes of the longest accepted sheet of the first edition, every section of which is full, and of the second: */
+#define TIMING_LONGEST_SHEET 8456
+#define TIMING_LONGEST_SHEET_2 8712
 /* bytes that no sentence passes: */
 #define TIMING_LONGEST_SENTENCE 200
 
@@ -143,7 +143,7 @@ enum timing_value {
 
 /*
  * The bytes of stack that a call uses below its caller's frame, whatever it is given: measured (214.7,
- * 232.3 and 3.1 KiB) and rounded up, the first two to 16 KiB. A thread needs some for itself besides.
+ * 234.6 and 3.1 KiB) and rounded up, the first two to 16 KiB. A thread needs some for itself besides.
  * A strict check uses no more than a check is said to, and the second edition's calls use no more than the
  * first's are said to. A conversion uses no more than a check is said to, and a report of pulses no more
  * than a run is said to.
@@ -175,12 +175,15 @@ void timing_check_strict_2(const uint8_t *sheet, size_t length, uint32_t answer[
  * Runs the sheet to the horizon and writes the records to the front of the listing, rising by tick
  * and then by node: each watched node's value at tick 0, and from then on its changes below the
  * horizon. A record's end is the tick of the node's next record. An input is TIMING_UNKNOWN until its
- * first event. A buffer takes bytes / TIMING_RECORD_SIZE records, rounded down.
+ * first event. A node that several modules drive has what they contribute, joined: TIMING_NONE yields to the
+ * other, equal values stay, anything else is TIMING_UNKNOWN. Each contributes the node's initial value until
+ * its own delay has passed. A buffer takes bytes / TIMING_RECORD_SIZE records, rounded down.
  *
  * Finished: the records are all there are, and each node's last one ends at the horizon. Refusals 1 to
  * 18: none is written. TIMING_NO_ROOM: those of all earlier ticks, each node's last one ending at this
- * tick. TIMING_CROWDED: those and this tick's, each node's last one ending at the tick after. The buffer
- * keeps every byte past the last record as it was.
+ * tick. TIMING_CROWDED: those and this tick's, each node's last one ending at the tick after; changes are
+ * pending for each module, whether or not its node shows them. The buffer keeps every byte past the last
+ * record as it was.
  */
 void timing_run(const uint8_t *sheet, size_t length, uint32_t horizon, uint8_t *listing, size_t bytes,
                 uint32_t answer[3]);

@@ -2,7 +2,7 @@
 
 use generate::shared::unknown_at_first;
 use generate::sheets::MEMORY;
-use generate::{every, Generator, Size};
+use generate::{drivers_by_hand, every, Generator, Size};
 use plain::{Edition, Sheet};
 
 use crate::outside::Simulator;
@@ -34,29 +34,53 @@ pub fn ours() {
 }
 
 /// A simulator that is not ours over sheets that are translated for it: all gates at all values,
-/// inputs that are X at first, and generated ones.
+/// inputs that are X at first, drivers of one node that say all pairs and triples of values, and
+/// generated ones, with one driver a node and with several.
 pub fn translations(simulator: &Simulator) {
-    translation(simulator, &unknown_at_first());
-    let sheets = 100;
+    translation(simulator, &unknown_at_first(), HORIZON);
     for edition in Edition::ALL {
         for delay in [0, 5] {
-            translation(simulator, &every::gates(edition, delay));
+            translation(simulator, &every::gates(edition, delay), HORIZON);
         }
-        let mut generator = Generator::of(edition, 2);
-        let mut translated = 0;
-        while translated < sheets {
-            let sheet = generator.lively(Size::Small);
-            if !sheet.watched.is_empty() && !could_catch(&sheet) {
-                translation(simulator, &sheet);
-                translated += 1;
-            }
+        generated(simulator, edition, Generator::lively);
+        generated(simulator, edition, Generator::several_drivers);
+    }
+    for case in drivers_by_hand::cases() {
+        if case.answer[0] == 0 && case.horizon <= HORIZON && !could_catch(&case.sheet) {
+            translation(simulator, &case.sheet, case.horizon);
+        }
+    }
+    joins(simulator, [0, 0]);
+    joins(simulator, [3, 1]);
+    joins(simulator, [0, 0, 0]);
+    joins(simulator, [2, 0, 5]);
+}
+
+const HORIZON: u32 = 100;
+
+/// Sheets of a family that are translated.
+fn generated(simulator: &Simulator, edition: Edition, family: fn(&mut Generator, Size) -> Sheet) {
+    let sheets = 100;
+    let mut generator = Generator::of(edition, 2);
+    let mut translated = 0;
+    while translated < sheets {
+        let sheet = family(&mut generator, Size::Small);
+        if !sheet.watched.is_empty() && !could_catch(&sheet) {
+            translation(simulator, &sheet, HORIZON);
+            translated += 1;
         }
     }
 }
 
+/// Drivers with these delays that say every pair or triple of values. Their memories catch everything, so
+/// what passes inside a tick does not stay.
+fn joins<const N: usize>(simulator: &Simulator, delays: [u16; N]) {
+    let every::Joins { sheet, horizon, .. } = every::joins(delays);
+    translation(simulator, &sheet, horizon);
+}
+
 /// Every sheet is one of the second edition, too.
-fn translation(simulator: &Simulator, sheet: &Sheet) {
-    let horizon = 100;
+fn translation(simulator: &Simulator, sheet: &Sheet, horizon: u32) {
     let ours = timed::run(timed::plain, 1, Edition::Second, sheet, horizon).records;
     let theirs = simulator.run(sheet, horizon).expect(simulator.name);
     assert!(theirs.records == ours, "{}: {sheet:?}", simulator.name);

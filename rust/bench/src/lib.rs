@@ -4,6 +4,7 @@
 #![forbid(unsafe_code)]
 
 pub mod agree;
+mod buses;
 pub mod describe;
 pub mod machine;
 pub mod outside;

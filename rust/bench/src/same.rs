@@ -4,10 +4,13 @@
 //! The passes of a tick are those of the library's crate `run`, in its order: the drive's events,
 //! the changes due, the modules of delay zero in working order, the delayed modules, whose new
 //! results are scheduled, the count of the records, the records, and the values now shown. The
-//! arrays are its arrays: 8 bytes a module in working order, the delays, the laid-out rules, where
-//! that of each module's kind begins, the values, what each module came to last, one flat list of
-//! pending changes, each in 32 bits, and where each node's last record stands. A record is written
-//! with end 0, which the node's next record puts right, and for what still lasts the end of the run.
+//! arrays are its arrays: 8 bytes a module in working order, one of which says whether its node has other
+//! drivers, the delays, the laid-out rules, where that of each module's kind begins, the values, what each
+//! module contributes, how many contribute each value to a node of several drivers, what each delayed module
+//! came to last, one flat list of pending changes, each in 32 bits, and where each node's last record
+//! stands. A record is written with end 0, which the node's next record puts right, and for what still lasts
+//! the end of the run. A contribution that changes is taken off its node's counts and added to them again,
+//! and the node's value is read from them; with one driver a node there are no counts to look at.
 //!
 //! Both sides are compiled by LLVM at -O3 for the x86-64 that all machines have, each as one
 //! module: the library so by its own tool, this side by the workspace's release profile (fat LTO,
@@ -21,6 +24,7 @@
 //! Reading the sheet is left to the plain simulator: a few milliseconds of a run.
 
 mod changes;
+mod nodes;
 mod order;
 mod tables;
 mod tick;

@@ -1,5 +1,6 @@
 //! The sheets that are timed. Few nodes are watched, so that the listings stay short.
 
+use crate::buses::buses;
 use generate::sheets::*;
 use generate::{Generator, Start};
 use plain::{Edition, Sheet, HIGH, INPUT, LOW};
@@ -28,6 +29,7 @@ pub fn all() -> Vec<Workload> {
             "255 gates of three inputs",
             random_gates(Edition::Second, 24),
         ),
+        first("8 buses of 16 drivers", buses()),
     ]
 }
 

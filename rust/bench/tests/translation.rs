@@ -40,6 +40,48 @@ fn the_worked_run() {
     assert_eq!(vhdl::text(&sheet, worked_run::HORIZON), WORKED_VHDL);
 }
 
+/// A bus of two clocked inverters, and a buffer that reads it.
+#[test]
+fn several_drivers() {
+    let modules = [
+        gate(CLOCKED_INVERTER, [0, 1], 2, 0),
+        gate(BUFFER, [2], 3, 1),
+        gate(CLOCKED_INVERTER, [1, 0], 2, 4),
+    ];
+    let drive = [(0, 0, HIGH), (0, 1, LOW)];
+    let sheet = sheet(&[INPUT, INPUT, NONE, LOW], &modules, &drive, &[2]);
+    let in_verilog = verilog::text(&sheet, 10);
+    let lines: Vec<&str> = in_verilog.lines().skip(6).take(9).collect();
+    assert_eq!(
+        lines,
+        [
+            "wire n2;",
+            "reg m0 = 1'bz;",
+            "assign n2 = m0;",
+            "reg m2 = 1'bz;",
+            "assign n2 = m2;",
+            "reg n3 = 1'b0;",
+            "always @(go or n0 or n1) if (go) m0 = n1 ? ~n0 : 1'bz;",
+            "always @(go or n2) if (go) n3 <= #1 ~(~n2);",
+            "always @(go or n1 or n0) if (go) m2 <= #4 n0 ? ~n1 : 1'bz;"
+        ]
+    );
+    let in_vhdl = vhdl::text(&sheet, 10);
+    let lines: Vec<&str> = in_vhdl.lines().skip(5).take(6).collect();
+    assert_eq!(
+        lines,
+        [
+            "signal n2 : std_logic := 'Z';",
+            "signal n3 : std_ulogic := '0';",
+            "begin",
+            "n2 <= transport not n0 when n1 = '1' else 'Z' when n1 = '0' else 'X';",
+            "n3 <= transport not (not n2) after 1 ns;",
+            "n2 <= transport not n1 after 4 ns when n0 = '1' else 'Z' after 4 ns when n0 = '0' else 'X' \
+             after 4 ns;"
+        ]
+    );
+}
+
 /// Inputs that are X at first: one that begins at tick 3, and one that never does.
 #[test]
 fn inputs_that_start_unknown() {

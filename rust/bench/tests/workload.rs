@@ -3,8 +3,8 @@
 use bench::same;
 use bench::timed::{self, Timed};
 use bench::workload::{self, Workload};
-use generate::sheets::MEMORY;
-use plain::{Edition, Sheet};
+use generate::sheets::{CLOCKED_INVERTER, MEMORY};
+use plain::{timelines, Edition, Sheet, NONE};
 
 const HORIZON: u32 = 2_000;
 
@@ -25,7 +25,7 @@ fn sheet(name: &str) -> Sheet {
 #[test]
 fn all_run_and_list_changes() {
     let all = workload::all();
-    assert_eq!(all.len(), 6);
+    assert_eq!(all.len(), 7);
     for workload in all {
         let Workload {
             name,
@@ -81,4 +81,52 @@ fn the_chain_follows_its_oscillator() {
 #[test]
 fn little_happens_in_the_sparse_sheet() {
     assert_eq!(changes_per_tick(&sheet("sparse")), 0);
+}
+
+/// The ticks at which none of a bus's drivers, one and several say something.
+fn drivers_on(sheet: &Sheet, bus: u8) -> [usize; 3] {
+    let contributions = timelines(sheet, HORIZON).contributions;
+    let mut on = vec![0; HORIZON as usize];
+    for driver in sheet.drivers(bus) {
+        for (on, &given) in on.iter_mut().zip(&contributions[driver]) {
+            *on += usize::from(given != NONE);
+        }
+    }
+    let mut ticks = [0; 3];
+    on.into_iter().for_each(|on| ticks[on.min(2)] += 1);
+    ticks
+}
+
+/// Each bus has 16 drivers, of which mostly one is on, and changes at least at every sixth tick.
+#[test]
+fn the_buses_are_driven_in_turn() {
+    let buses = sheet("8 buses");
+    let cells = timelines(&buses, HORIZON).cells;
+    for bus in 0..8 {
+        let drivers = buses.drivers(bus).map(|place| buses.modules[place]);
+        let delays = if bus < 4 { 0..=0 } else { 1..=5 };
+        let is_driver = |m: plain::Module| m.kind == CLOCKED_INVERTER && delays.contains(&m.delay);
+        assert_eq!(drivers.filter(|&module| is_driver(module)).count(), 16);
+        let [none, one, several] = drivers_on(&buses, bus);
+        println!("bus {bus}: none is on at {none} ticks, one at {one}, several at {several}");
+        assert!(10 * one > 8 * HORIZON as usize, "bus {bus}: {one}");
+        assert_eq!(none > 0 && several > 0, bus >= 4, "bus {bus}");
+        let changes = cells[usize::from(bus)]
+            .windows(2)
+            .filter(|pair| pair[0] != pair[1]);
+        assert!(6 * changes.count() > HORIZON as usize, "bus {bus}");
+    }
+    assert!(changes_per_tick(&buses) > 10);
+}
+
+/// No tick is refused, and the buses still change at the end.
+#[test]
+fn the_buses_last() {
+    let horizon = 200_000;
+    let buses = sheet("8 buses");
+    let Timed { records, .. } = timed::run(same::run, 1, Edition::First, &buses, horizon);
+    let last = records
+        .iter()
+        .filter(|&&(tick, ..)| tick >= horizon - 1_000);
+    assert!(last.count() > 300);
 }

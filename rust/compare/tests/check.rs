@@ -1,8 +1,10 @@
 //! Checking a sheet: the proved library gives the plain simulator's answers, and document 01's.
 
 use compare::{count, hex, seed};
+use generate::drivers::has_several_drivers;
+use generate::limits::LONGEST_SHEETS;
 use generate::sheets::*;
-use generate::{assert_met, by_hand, every, Generator, Size};
+use generate::{assert_met, by_hand, every, starts_of, Generator, Size, Start};
 use plain::{worked_run, Answer, Edition, Sheet, HIGH, INPUT, UNKNOWN};
 
 /// The check's answer and the strict check's, by the proved library.
@@ -36,17 +38,23 @@ fn generated(edition: Edition) {
     let seed = seed();
     let mut generator = Generator::of(edition, seed);
     let mut met = [[0u64; 19]; 2];
+    let mut several_drivers = 0;
     for place in 0..count(200_000) {
         let sheet = generator.any();
         let answers = agreed(edition, &sheet, &format!("seed {seed}, sheet {place}"));
         for (met, [number, ..]) in met.iter_mut().zip(answers) {
             met[number as usize] += 1;
         }
+        let accepted = plain::read(edition, &sheet);
+        several_drivers += u64::from(accepted.is_ok_and(|sheet| has_several_drivers(&sheet)));
     }
     println!("{edition:?}: answers by number, 0 for accepted, then of a strict check: {met:?}");
-    assert_met(&met[0], 100, &[1, 15], &format!("seed {seed}"));
-    assert_met(&met[1], 100, &[1], &format!("seed {seed}, strictly"));
+    println!("{edition:?}: {several_drivers} accepted sheets with several drivers a node");
+    // Several drivers are not refused: 9 is never given.
+    assert_met(&met[0], 100, &[1, 9, 15], &format!("seed {seed}"));
+    assert_met(&met[1], 100, &[1, 9], &format!("seed {seed}, strictly"));
     assert!(met.iter().all(|met| met[0] >= 10_000), "seed {seed}");
+    assert!(several_drivers >= 10_000, "seed {seed}: {several_drivers}");
 }
 
 #[test]
@@ -66,6 +74,7 @@ fn every_truncation() {
         let sizes = [Size::Tiny, Size::Small, Size::Medium, Size::Full];
         let mut sheets = sizes.map(|size| generator.valid(size)).to_vec();
         sheets.push(generator.zero_delay().sheet);
+        sheets.push(generator.several_drivers(Size::Small));
         sheets.push(worked_run::sheet());
         for sheet in sheets {
             for cut in every::truncations(&sheet.encode(edition)) {
@@ -78,7 +87,12 @@ fn every_truncation() {
 #[test]
 fn every_value_of_every_byte() {
     for edition in Edition::ALL {
-        let sheets = [worked_run::sheet(), by_hand::start(), by_hand::start_2()];
+        let sheets = [
+            worked_run::sheet(),
+            by_hand::start(),
+            by_hand::start_2(),
+            by_hand::two_drivers(),
+        ];
         for sheet in sheets {
             for changed in every::single_bytes(&sheet.encode(edition)) {
                 agreed(edition, &changed, "one byte changed");
@@ -129,7 +143,7 @@ fn sheets_of_the_first_edition_in_the_second() {
     }
     println!("answers of both checks by number, 0 for accepted: {met:?}");
     // Every record is whole and nothing is left over.
-    assert_met(&met, 100, &[1, 2, 3, 17], &format!("seed {seed}"));
+    assert_met(&met, 100, &[1, 2, 3, 9, 17], &format!("seed {seed}"));
 }
 
 /// An input and a module that drives node 1, which is watched.
@@ -163,21 +177,42 @@ fn no_bytes_at_all() {
     }
 }
 
-/// With an input, and so with a drive, there are 255 modules at most.
+/// Every section is full: with an input, and so with a drive, two of the 256 modules drive one node.
 #[test]
 fn the_longest_sheets() {
-    for (edition, longest) in [(Edition::First, 8_449), (Edition::Second, 8_704)] {
+    for (edition, longest) in Edition::ALL.into_iter().zip(LONGEST_SHEETS) {
         let mut generator = Generator::of(edition, 3);
-        let mut lengths = Vec::new();
         for _ in 0..20 {
-            let sheet = generator.valid(Size::Full).encode(edition);
-            assert_eq!(compare::check(edition, &sheet), [0, 0, 0]);
+            let sheet = generator.longest();
+            let begins = starts_of(&sheet) == [Start::AtOnce];
+            let sheet = sheet.encode(edition);
+            assert_eq!(sheet.len(), longest);
+            let [plainly, strictly] = agreed(edition, &sheet, "longest");
+            assert_eq!(plainly, [0, 0, 0]);
+            assert_eq!(strictly[0], if begins { 0 } else { 15 });
             let left_over = [&sheet[..], &[0]].concat();
-            let refused = [17, sheet.len() as u32, 0];
+            let refused = [17, longest as u32, 0];
             assert_eq!(compare::check(edition, &left_over), refused);
-            lengths.push(sheet.len());
+            for cut in [1, 2, 256, 258] {
+                agreed(edition, &sheet[..longest - cut], "cut short");
+            }
         }
-        assert_eq!(lengths.into_iter().max(), Some(longest));
+    }
+}
+
+/// One input, 255 nodes that follow it, the last one by two modules: a strict check accepts it, too.
+#[test]
+fn a_full_sheet() {
+    for (edition, longest) in Edition::ALL.into_iter().zip(LONGEST_SHEETS) {
+        let mut nodes = [0; 256];
+        nodes[0] = INPUT;
+        let outputs = (1..=u8::MAX).chain([u8::MAX]);
+        let modules: Vec<_> = outputs.map(|node| gate(BUFFER, [0], node, 1)).collect();
+        let drive: Vec<Change> = (0..1_024).map(|tick| (tick, 0, 1)).collect();
+        let watched: Vec<u8> = (0..=u8::MAX).collect();
+        let sheet = sheet(&nodes, &modules, &drive, &watched).encode(edition);
+        assert_eq!(sheet.len(), longest);
+        assert_eq!(proved(edition, &sheet), [[0, 0, 0]; 2]);
     }
 }
 

@@ -4,9 +4,9 @@ use std::io::{ErrorKind, Write};
 use std::process::{Command, Stdio};
 
 use compare::{hex, program, seed};
-use generate::limits::{LAST_HORIZON, MOST_PRINTED};
+use generate::limits::{LAST_HORIZON, LONGEST_SHEETS, MOST_PRINTED};
 use generate::sheets::*;
-use generate::{by_hand, Generator};
+use generate::{by_hand, drivers_by_hand, Generator};
 use plain::{sentence, worked_run, Answer, Edition, HIGH, INPUT, LOW};
 
 /// Starts a program with a stack of 1,024 KiB: it must need less.
@@ -94,6 +94,31 @@ fn bytes_past_the_longest_sheet() {
         let mut input = worked_run::INPUT.to_vec();
         input.resize(length, 0);
         assert_eq!(printed(&input), refused([17, 31, 0]), "{length} bytes");
+    }
+}
+
+/// Every section is full, and the byte after the last one is seen.
+#[test]
+fn the_longest_sheet() {
+    let sheet = Generator::new(3).longest().encode(Edition::First);
+    assert_eq!(sheet.len(), LONGEST_SHEETS[0]);
+    assert_eq!(agreed(&input(20, &sheet), "the longest"), "finished");
+    let left_over = [&sheet[..], &[0]].concat();
+    let place = LONGEST_SHEETS[0] as u32;
+    assert_eq!(printed(&input(20, &left_over)), refused([17, place, 0]));
+}
+
+/// Document 02's W-209.
+#[test]
+fn several_drivers() {
+    for case in drivers_by_hand::cases() {
+        let sheet = case.sheet.encode(Edition::First);
+        let word = if case.answer[0] == 0 {
+            "finished"
+        } else {
+            "refused"
+        };
+        assert_eq!(agreed(&input(case.horizon, &sheet), case.name), word);
     }
 }
 

@@ -2,8 +2,10 @@
 //! the order of the refusals.
 
 mod second_edition;
+mod several_drivers;
 
 pub use second_edition::start_2;
+pub use several_drivers::two_drivers;
 
 use plain::{Edition, Module, Sheet, INPUT};
 
@@ -52,6 +54,7 @@ pub fn cases() -> Vec<Case> {
         loops(),
         ends(),
         second_edition::cases(),
+        several_drivers::cases(),
     ]
     .into_iter()
     .flatten()
@@ -185,35 +188,33 @@ fn modules() -> Vec<Case> {
         changed("delay 10,000", ACCEPTED, |s| s.modules[0].delay = 10_000),
         changed("delay 10,001", [8, 7, 0], |s| s.modules[0].delay = 10_001),
         changed("delay 65,535", [8, 14, 0], |s| s.modules[1].delay = 65_535),
-        changed("output driven twice", [9, 14, 0], |s| {
-            s.modules[1].output = 1;
-        }),
     ]
 }
 
-/// One module with every fault, and the same with the faults taken away from the top.
+/// One module with every fault, and the same with the faults taken away from the top. That another module
+/// drives its output is none.
 fn module_order() -> Vec<Case> {
     vec![
-        changed("5 before 6 to 9", [5, 14, 0], |s| {
+        changed("5 before 6 to 8", [5, 14, 0], |s| {
             s.modules[1] = Module {
                 parameter: 16,
                 ..gate(10, [3, 3], 1, 10_001)
             }
         }),
-        changed("6 before 7 to 9", [6, 14, 0], |s| {
+        changed("6 before 7 and 8", [6, 14, 0], |s| {
             s.modules[1] = Module {
                 parameter: 16,
                 ..gate(9, [3, 3], 1, 10_001)
             }
         }),
-        changed("7 before 8 and 9", [7, 14, 0], |s| {
+        changed("7 before 8", [7, 14, 0], |s| {
             s.modules[1] = gate(9, [3, 3], 1, 10_001);
         }),
-        changed("8 before 9", [8, 14, 0], |s| {
+        changed("8 before 10", [8, 14, 0], |s| {
             s.modules[1] = gate(9, [0, 1], 1, 10_001);
         }),
-        changed("an earlier record before a lower number", [9, 14, 0], |s| {
-            s.modules[1] = gate(9, [0, 1], 1, 0);
+        changed("an earlier record before a lower number", [8, 14, 0], |s| {
+            s.modules[1] = gate(9, [0, 1], 2, 10_001);
             s.modules.push(gate(10, [0, 0], 2, 0));
         }),
     ]

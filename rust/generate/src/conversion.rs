@@ -7,7 +7,7 @@ use std::mem;
 
 use plain::{Edition, Module, Sheet};
 
-use crate::Generator;
+use crate::{Generator, Size};
 
 /// The length of an output, seen from the length that is needed.
 #[derive(Debug, Clone, Copy, PartialEq, Eq)]
@@ -34,23 +34,41 @@ impl Output {
 impl Generator {
     /// The bytes of a sheet, good or bad, to be converted to the other edition.
     pub fn to_convert(&mut self) -> Vec<u8> {
+        self.or_beside(
+            |generator| {
+                generator.any_or_narrow(Generator::any_of_one_driver, Generator::base_or_faulty)
+            },
+            |generator| {
+                generator.any_or_narrow(Generator::any_of_several_drivers, |generator| {
+                    generator.several_drivers(Size::Small)
+                })
+            },
+        )
+    }
+
+    /// The bytes of any sheet of a family, or of one that has few modules or none of three inputs.
+    fn any_or_narrow(
+        &mut self,
+        any: fn(&mut Generator) -> Vec<u8>,
+        narrow: fn(&mut Generator) -> Sheet,
+    ) -> Vec<u8> {
         let modules_to_widen = match (self.edition, self.random.between(0, 9)) {
-            (Edition::First, _) | (_, 0..=3) => return self.any(),
+            (Edition::First, _) | (_, 0..=3) => return any(self),
             (_, 4..=6) => 0,
             (_, 7..=8) => 1,
             _ => 2,
         };
-        let mut sheet = self.of_first_kinds();
+        let mut sheet = self.of_first_kinds(narrow);
         for _ in 0..modules_to_widen {
             self.widen_a_module(&mut sheet);
         }
         sheet.encode(self.edition)
     }
 
-    /// A sheet as it is made in the first edition, good or with a fault.
-    fn of_first_kinds(&mut self) -> Sheet {
+    /// A sheet as it is made in the first edition.
+    fn of_first_kinds(&mut self, make: fn(&mut Generator) -> Sheet) -> Sheet {
         let edition = mem::replace(&mut self.edition, Edition::First);
-        let sheet = self.base_or_faulty();
+        let sheet = make(self);
         self.edition = edition;
         sheet
     }

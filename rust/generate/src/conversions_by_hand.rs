@@ -111,6 +111,28 @@ const TWO_MODULES_2: [u8; 41] = [
     2, 0, 0, 2, // watched
 ];
 
+/// A bus of clocked inverters, two of them equal records, in the first edition.
+const BUS_1: [u8; 45] = [
+    3, 0, 4, 4, 3, // nodes
+    3, 0, // modules
+    8, 0, 2, 0, 1, 2, 0, // three that drive node 2
+    8, 0, 2, 1, 0, 3, 0, //
+    8, 0, 2, 0, 1, 2, 0, //
+    2, 0, 0, 0, 0, 0, 0, 0, 0, 0, 0, 0, 1, 1, // drive
+    1, 0, 2, // watched
+];
+
+/// The same in the second.
+const BUS_2: [u8; 48] = [
+    3, 0, 4, 4, 3, // nodes
+    3, 0, // modules
+    8, 0, 2, 0, 1, 0, 2, 0, // three that drive node 2
+    8, 0, 2, 1, 0, 0, 3, 0, //
+    8, 0, 2, 0, 1, 0, 2, 0, //
+    2, 0, 0, 0, 0, 0, 0, 0, 0, 0, 0, 0, 1, 1, // drive
+    1, 0, 2, // watched
+];
+
 /// The least sheet there is: an input that is never driven.
 const ONE_INPUT: [u8; 9] = [1, 0, 4, 0, 0, 0, 0, 0, 0];
 
@@ -160,6 +182,7 @@ fn written_out() -> Vec<Case> {
     [
         both_ways("the worked run", worked_run::SHEET, &WORKED_RUN_2),
         both_ways("two modules", &TWO_MODULES_1, &TWO_MODULES_2),
+        both_ways("three drivers of one node", &BUS_1, &BUS_2),
         both_ways("one input", &ONE_INPUT, &ONE_INPUT),
         both_ways("no modules", &NO_MODULES, &NO_MODULES),
         both_ways("every kind", &every_kind[0], &every_kind[1]),

@@ -25,9 +25,6 @@ const PASSING: &[u8] = &[
     MULTIPLEXER,
 ];
 
-/// The set of all values.
-const ANY_VALUE: u8 = 15;
-
 impl Generator {
     /// A lively node and delayed modules after it. The changes pending at the busiest tick are
     /// often exactly at the limit or one past it.
@@ -83,6 +80,23 @@ impl Generator {
             self.add_passing(&mut sheet, before, delay, true);
         }
         self.with_horizon(sheet, whole + longest + 1)
+    }
+
+    /// Delayed modules that pass an oscillator's changes on to one node, or to two or three. The changes
+    /// pending at the busiest tick are often exactly at the limit or one past it, whatever the nodes show.
+    pub fn crowded_bus(&mut self) -> RunInput {
+        let modules = self.random.pick(&[2, 3, 5, 16, 40, 100, 255]);
+        let delays = self.delays_near_the_limit(modules);
+        let longest = longest(&delays);
+        let mut sheet = oscillator();
+        let buses = self.random.pick(&[1, 1, 2, 3]).min(modules);
+        for (place, delay) in delays.into_iter().enumerate() {
+            self.add_passing(&mut sheet, 0, delay, false);
+            if place >= buses {
+                share(&mut sheet, byte(1 + place % buses));
+            }
+        }
+        self.with_horizon(sheet, 2 * longest + 1)
     }
 
     /// A number of pending changes at the limit, just past it or somewhere around.
@@ -208,4 +222,11 @@ fn toggled_input(changes: usize, start: Start) -> Sheet {
         drive: ticks.map(|tick| event(tick, 0, level(tick))).collect(),
         ..Sheet::default()
     }
+}
+
+/// The last module drives this node, instead of the one that was added for it.
+fn share(sheet: &mut Sheet, node: u8) {
+    sheet.nodes.pop();
+    let last = sheet.modules.last_mut();
+    last.expect("a module was added").output = node;
 }

@@ -24,7 +24,7 @@ pub fn cases() -> Vec<Case> {
 }
 
 /// A run with more room than it needs, which finishes.
-fn finished(name: &'static str, sheet: Sheet, horizon: u32, records: &[Record]) -> Case {
+pub(crate) fn finished(name: &'static str, sheet: Sheet, horizon: u32, records: &[Record]) -> Case {
     Case {
         name,
         sheet,

@@ -1,6 +1,6 @@
 //! Families that are small enough to be taken whole.
 
-use plain::{Edition, Sheet, INPUT, UNKNOWN};
+use plain::{Edition, Sheet, INPUT, NONE, UNKNOWN};
 
 use crate::byte;
 use crate::sheets::*;
@@ -76,4 +76,42 @@ pub fn gates(edition: Edition, delay: u16) -> Sheet {
     nodes.resize(nodes.len() + modules.len(), UNKNOWN);
     let watched: Vec<u8> = (0..nodes.len()).map(byte).collect();
     sheet(&nodes, &modules, &drive, &watched)
+}
+
+/// What two contributions come to, written out: a row for each of the one, a column for each of the other.
+pub const JOINED: [[u8; 4]; 4] = [[0, 2, 2, 0], [2, 1, 2, 1], [2, 2, 2, 2], [0, 1, 2, 3]];
+
+/// A node that each input drives over a memory that catches everything, with these delays. The inputs go
+/// through every pair, triple and so on of values, and each stands for so long that all drivers have it at
+/// its last tick.
+pub struct Joins<const N: usize> {
+    pub sheet: Sheet,
+    pub horizon: u32,
+    /// The values that the inputs have at each of these last ticks.
+    pub values: Vec<(u32, [u8; N])>,
+}
+
+pub fn joins<const N: usize>(delays: [u16; N]) -> Joins<N> {
+    let combinations = 4_u32.pow(N as u32);
+    let lasts = 1 + delays.into_iter().max().map_or(0, u32::from);
+    let values = |place: u32| std::array::from_fn(|input| (place >> (2 * input) & 3) as u8);
+    let events = |place: u32| {
+        let values: [u8; N] = values(place);
+        (0..)
+            .zip(values)
+            .map(move |(input, value)| (place * lasts, input, value))
+    };
+    let drive: Vec<Change> = (0..combinations).flat_map(events).collect();
+    let joined = byte(N);
+    let driver = |(input, delay)| memory(ANY_VALUE, [input; 2], joined, delay);
+    let modules: Vec<_> = (0..).zip(delays).map(driver).collect();
+    let mut nodes = vec![INPUT; N];
+    nodes.push(NONE);
+    Joins {
+        sheet: sheet(&nodes, &modules, &drive, &[joined]),
+        horizon: combinations * lasts,
+        values: (0..combinations)
+            .map(|place| ((place + 1) * lasts - 1, values(place)))
+            .collect(),
+    }
 }

@@ -37,7 +37,7 @@ impl Generator {
         }
     }
 
-    fn add_fault(&mut self, sheet: &mut Sheet) {
+    pub(crate) fn add_fault(&mut self, sheet: &mut Sheet) {
         match self.random.between(0, 19) {
             0..=1 => self.change_node(sheet),
             2..=7 => self.change_module(sheet),
@@ -170,7 +170,7 @@ impl Generator {
         }
     }
 
-    fn spoil_module(&mut self, sheet: &mut Sheet) {
+    pub(crate) fn spoil_module(&mut self, sheet: &mut Sheet) {
         let nodes = sheet.nodes.len();
         if sheet.modules.is_empty() {
             return;

@@ -3,16 +3,21 @@
 //! Every stream of sheets is determined by its seed, so a failing one can be made again. The
 //! families are named and stand in files of their own; [`Generator::any`] mixes them,
 //! [`Generator::run_input`] mixes what runs are given, and [`Generator::pulses_input`] what reports of
-//! pulses are.
+//! pulses are. Sheets with several drivers a node come from a stream beside the others', so that those
+//! are what they were before there were any.
 
 #![forbid(unsafe_code)]
 
 mod answer;
+mod beside;
+mod buses;
 pub mod by_hand;
 mod bytes;
 mod conversion;
 pub mod conversions_by_hand;
 mod crowded;
+pub mod drivers;
+pub mod drivers_by_hand;
 pub mod ends;
 pub mod ends_by_hand;
 pub mod every;
@@ -22,6 +27,7 @@ mod kinds;
 pub mod limits;
 mod met;
 mod mixture;
+mod more_drivers;
 pub mod pulses;
 pub mod pulses_by_hand;
 mod pulses_input;
@@ -53,6 +59,8 @@ use random::Random;
 pub struct Generator {
     edition: Edition,
     random: Random,
+    /// For sheets with several drivers a node.
+    beside: Random,
 }
 
 impl Generator {
@@ -66,6 +74,7 @@ impl Generator {
         Generator {
             edition,
             random: Random::new(seed),
+            beside: Random::new(seed.rotate_left(17) ^ 209),
         }
     }
 }

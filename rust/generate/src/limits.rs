@@ -6,11 +6,17 @@ pub const LAST_HORIZON: u32 = 1_000_000;
 /// The most nodes that a sheet may have.
 pub const MOST_NODES: usize = 256;
 
+/// The most modules that a sheet may have.
+pub const MOST_MODULES: usize = 256;
+
 /// The most events that a drive may have.
 pub const MOST_EVENTS: usize = 1_024;
 
 /// The most changes that may be pending after a tick.
 pub const MOST_PENDING: usize = 4_096;
+
+/// The bytes of the longest sheets, of the first edition and of the second.
+pub const LONGEST_SHEETS: [usize; 2] = [8_456, 8_712];
 
 /// The bytes of a record in a listing.
 pub const RECORD_BYTES: usize = 10;

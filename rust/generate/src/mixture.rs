@@ -3,8 +3,15 @@
 use crate::{Generator, Size};
 
 impl Generator {
-    /// The bytes of a sheet, good or bad, or of none.
+    /// The bytes of a sheet, good or bad, or of none. Of some sheets nodes have several drivers.
     pub fn any(&mut self) -> Vec<u8> {
+        self.or_beside(
+            Generator::any_of_one_driver,
+            Generator::any_of_several_drivers,
+        )
+    }
+
+    pub(crate) fn any_of_one_driver(&mut self) -> Vec<u8> {
         let sheet = match self.random.between(0, 999) {
             0..=79 => self.valid(Size::Tiny),
             80..=199 => self.valid(Size::Small),

@@ -3,6 +3,8 @@
 use plain::{worked_run, Edition, Sheet, HIGH, INPUT, LOW, NONE, UNKNOWN};
 
 use crate::by_hand;
+use crate::drivers_by_hand;
+use crate::ends_by_hand;
 use crate::limits::{LAST_HORIZON, MOST_NODES, PULSE_BYTES, RECORD_BYTES};
 use crate::runs_by_hand::every_choice;
 use crate::shared::{four_buffers, toggled, unknown_at_first, UNKNOWN_AT_FIRST};
@@ -66,6 +68,7 @@ pub fn cases() -> Vec<Case> {
         the_longest_width(),
         the_last_ticks(),
         of_three_inputs(),
+        of_several_drivers(),
         outside_their_ranges(),
         no_whole_listing(),
         refused_by_their_check(),
@@ -433,6 +436,31 @@ fn of_three_inputs() -> Vec<Case> {
             4,
             &[first, second, neither, both, chosen_none],
         ),
+    ]
+    .concat()
+}
+
+/// Document 02's W-209 as well. From tick 4 on the bus has stretches of 3, 2, 2, 2, 2, 1 and 2 ticks, of which
+/// the one between ticks 12 and 13 of two contributions that are alike is none of its own.
+fn of_several_drivers() -> Vec<Case> {
+    let ends_by_hand::Case {
+        sheet,
+        horizon,
+        records,
+        ..
+    } = drivers_by_hand::two_inverters();
+    let run = Run::new(&sheet, horizon, &records);
+    let pulse = |start: u8, length: u8| [start, 0, 0, 0, 4, length, 0, 0, 0];
+    let of_3 = pulse(4, 3);
+    let of_2 = [7, 9, 11, 13].map(|start| pulse(start, 2));
+    let of_1 = pulse(15, 1);
+    let again = pulse(16, 2);
+    let shorter = [&of_2[..], &[of_1, again]].concat();
+    [
+        run.reports("a bus", 1, &[]),
+        run.reports("a bus", 2, &[of_1]),
+        run.reports("a bus", 3, &shorter),
+        run.reports("a bus", 4, &[&[of_3][..], &shorter].concat()),
     ]
     .concat()
 }

@@ -2,6 +2,7 @@
 
 use plain::{Module, Sheet, HIGH, INPUT, LOW, NONE, UNKNOWN};
 
+use crate::drivers_by_hand;
 use crate::sheets::*;
 
 /// A run that finishes, and the records that it leaves.
@@ -21,6 +22,7 @@ pub fn cases() -> Vec<Case> {
         three_delays(),
         ring_by_the_third_input(),
         chain_by_the_third_input(),
+        drivers_by_hand::of_three_inputs(),
     ]
 }
 

@@ -21,6 +21,9 @@ pub const NAND_3: u8 = 13;
 pub const NOR_3: u8 = 14;
 pub const MULTIPLEXER: u8 = 15;
 
+/// A memory's set of all values.
+pub const ANY_VALUE: u8 = 15;
+
 /// Tick, node and value: an event of a drive, or a change.
 pub type Change = (u32, u8, u8);
 

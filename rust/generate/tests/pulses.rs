@@ -48,7 +48,12 @@ fn mixture(edition: Edition) {
     }
     println!("{edition:?}: answers by number, 0 for finished: {met:?}; {pulses_met:?}");
     assert!(met[0] >= 10_000, "{edition:?}: {met:?}");
-    assert_met(&met, 10, &[15, 19, 21, 22, 23, 25], &format!("{edition:?}"));
+    assert_met(
+        &met,
+        10,
+        &[9, 15, 19, 21, 22, 23, 25],
+        &format!("{edition:?}"),
+    );
     pulses_met.assert_often(500, &format!("{edition:?}"));
 }
 
@@ -63,7 +68,7 @@ fn every_refusal_has_a_case() {
         let mut cases = pulses_by_hand::cases();
         cases.retain(|case| case.edition == edition);
         let numbers: BTreeSet<u32> = cases.iter().map(|case| case.answer[0]).collect();
-        let of_a_run = (0..=20).filter(|&number| number != 15);
+        let of_a_run = (0..=20).filter(|number| ![9, 15].contains(number));
         assert_eq!(numbers, of_a_run.chain([24, 25]).collect(), "{edition:?}");
     }
 }

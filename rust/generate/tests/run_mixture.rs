@@ -3,7 +3,7 @@
 use generate::{assert_met, room_for_all, Generator, RunInput};
 use plain::Edition;
 
-fn every_refusal_but_15_and_19(edition: Edition) {
+fn every_refusal(edition: Edition) {
     let mut generator = Generator::of(edition, 31);
     let mut met = [0; 21];
     for _ in 0..20_000 {
@@ -14,15 +14,13 @@ fn every_refusal_but_15_and_19(edition: Edition) {
     }
     println!("{edition:?}: answers by number, 0 for finished: {met:?}");
     assert!(met[0] >= 10_000, "{met:?}");
-    // 19 asks for a short buffer, and 15 for a strict check.
-    assert_met(&met, 15, &[15, 19], "runs");
+    // 19 asks for a short buffer, 15 for a strict check, and 9 is not given any more.
+    assert_met(&met, 15, &[9, 15, 19], "runs");
 }
 
 #[test]
-fn every_refusal_but_15_and_19_is_met() {
-    Edition::ALL
-        .into_iter()
-        .for_each(every_refusal_but_15_and_19);
+fn every_refusal_that_a_sheet_can_meet_is_met() {
+    Edition::ALL.into_iter().for_each(every_refusal);
 }
 
 #[test]

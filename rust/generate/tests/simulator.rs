@@ -5,7 +5,8 @@ use generate::limits::RECORD_BYTES;
 use generate::sheets::{records, MEMORY};
 use generate::{Generator, Size};
 use plain::{
-    in_set, renumbered, renumbered_listing, rule, Answer, Edition, Event, Module, Sheet, UNKNOWN,
+    in_set, join, renumbered, renumbered_listing, rule, Answer, Edition, Event, Module, Sheet,
+    Timelines, UNKNOWN,
 };
 
 /// The byte that stands where nothing has been written.
@@ -14,18 +15,22 @@ const UNTOUCHED: u8 = 0xA5;
 /// Room for every record of the sheets and horizons below.
 const AMPLE: usize = RECORD_BYTES * 256 * 150;
 
-/// Calls `judge` with sheets of several sizes, a horizon that runs, and the generator, for each edition.
+/// Calls `judge` with sheets of several sizes, half of them with several drivers a node, a horizon that
+/// runs, and the generator, for each edition.
 fn over_valid_sheets(seed: u64, mut judge: impl FnMut(Edition, &mut Generator, &Sheet, u32)) {
     for edition in Edition::ALL {
         let mut generator = Generator::of(edition, seed);
-        for round in 0..1_500 {
-            let size = match round % 100 {
+        for round in 0..3_000 {
+            let size = match round / 2 % 100 {
                 0 => Size::Large,
                 1..=4 => Size::Medium,
                 5..=20 => Size::Tiny,
                 _ => Size::Small,
             };
-            let sheet = generator.valid(size);
+            let sheet = match round % 2 {
+                0 => generator.valid(size),
+                _ => generator.several_drivers(size),
+            };
             let horizon = generator.horizon().clamp(1, 150);
             judge(edition, &mut generator, &sheet, horizon);
         }
@@ -51,10 +56,16 @@ fn full_listing(edition: Edition, sheet: &Sheet, horizon: u32) -> Vec<u8> {
 
 /// The cell that a set of timelines must have by the node's equation.
 fn by_equation(sheet: &Sheet, cells: &[Vec<u8>], node: u8, tick: usize) -> u8 {
-    let Some(module) = sheet.driver(node) else {
-        return driven(&sheet.drive, node, tick);
-    };
-    let initial = sheet.nodes[usize::from(node)];
+    let drivers = sheet.modules.iter().filter(|module| module.output == node);
+    let given = drivers.map(|module| contribution(sheet, cells, module, tick));
+    given
+        .reduce(join)
+        .unwrap_or_else(|| driven(&sheet.drive, node, tick))
+}
+
+/// What a module must contribute by its own equation.
+fn contribution(sheet: &Sheet, cells: &[Vec<u8>], module: &Module, tick: usize) -> u8 {
+    let initial = sheet.nodes[usize::from(module.output)];
     if tick < usize::from(module.delay) {
         return initial;
     }
@@ -79,7 +90,10 @@ fn driven(drive: &[Event], node: u8, tick: usize) -> u8 {
 #[test]
 fn cells_satisfy_every_equation() {
     over_valid_sheets(20, |_, _, sheet, horizon| {
-        let cells = plain::cells(sheet, horizon);
+        let Timelines {
+            cells,
+            contributions,
+        } = plain::timelines(sheet, horizon);
         assert_eq!(cells.len(), sheet.nodes.len());
         for (node, timeline) in sheet.node_numbers().zip(&cells) {
             assert_eq!(timeline.len(), horizon as usize);
@@ -88,24 +102,30 @@ fn cells_satisfy_every_equation() {
                 assert_eq!(cell, expected, "node {node}, tick {tick}: {sheet:?}");
             }
         }
+        assert_eq!(contributions.len(), sheet.modules.len());
+        for (module, timeline) in sheet.modules.iter().zip(&contributions) {
+            assert_eq!(timeline.len(), horizon as usize);
+            for (tick, &given) in timeline.iter().enumerate() {
+                let expected = contribution(sheet, &cells, module, tick);
+                assert_eq!(given, expected, "{module:?}, tick {tick}: {sheet:?}");
+            }
+        }
     });
 }
 
 #[test]
 fn pending_changes_as_stated() {
     over_valid_sheets(21, |_, _, sheet, horizon| {
-        let cells = plain::cells(sheet, horizon);
-        let pending = plain::pending(sheet, &cells);
+        let timelines = plain::timelines(sheet, horizon);
+        let pending = plain::pending(sheet, &timelines);
         assert_eq!(pending.len(), horizon as usize);
         for (t, &count) in pending.iter().enumerate() {
-            let of_module = |module: &Module| {
-                let output = &cells[usize::from(module.output)];
+            let of_module = |(module, given): (&Module, &Vec<u8>)| {
                 let last = (t + usize::from(module.delay)).min(horizon as usize - 1);
-                (t + 1..=last)
-                    .filter(|&u| output[u] != output[u - 1])
-                    .count()
+                (t + 1..=last).filter(|&u| given[u] != given[u - 1]).count()
             };
-            let expected: usize = sheet.modules.iter().map(of_module).sum();
+            let modules = sheet.modules.iter().zip(&timelines.contributions);
+            let expected: usize = modules.map(of_module).sum();
             assert_eq!(count, expected, "after tick {t}: {sheet:?}");
         }
     });

@@ -52,6 +52,21 @@ fn networks_without_delay() {
 }
 
 #[test]
+fn sheets_with_several_drivers_a_node() {
+    for size in [Size::Tiny, Size::Small] {
+        all_met("several drivers", 2_000, |_, g| {
+            Some(g.several_drivers(size))
+        });
+    }
+    all_met("rings", 2_000, |_, g| {
+        Some(g.zero_delay_of_several_drivers().sheet)
+    });
+    all_met("buses", 2_000, |edition, g| {
+        plain::read(edition, &g.bus().sheet).ok()
+    });
+}
+
+#[test]
 fn crowded_sheets() {
     all_met("crowded", 500, |edition, g| {
         plain::read(edition, &g.crowded().sheet).ok()

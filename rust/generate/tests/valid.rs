@@ -2,6 +2,7 @@
 
 use std::collections::BTreeSet;
 
+use generate::limits::LONGEST_SHEETS;
 use generate::sheets::{AND_3, MULTIPLEXER};
 use generate::{starts_of, Generator, Size, Start};
 use plain::{check, read, Answer, Edition, Module, Sheet};
@@ -53,7 +54,7 @@ fn larger_ones() {
     }
 }
 
-/// Every section is at its limit. The longest sheet that is accepted has so many bytes.
+/// Every section is at its limit. The longest sheet with one driver a node has so many bytes.
 fn full(edition: Edition, longest: usize) {
     for sheet in accepted(edition, 5, Size::Full, 100) {
         assert_eq!(sheet.nodes.len(), 256);
@@ -74,6 +75,20 @@ fn full(edition: Edition, longest: usize) {
 fn full_ones() {
     full(Edition::First, 8_449);
     full(Edition::Second, 8_704);
+}
+
+/// With several drivers a node there may be an input and 256 modules.
+#[test]
+fn the_longest_ones() {
+    for (edition, longest) in Edition::ALL.into_iter().zip(LONGEST_SHEETS) {
+        let mut generator = Generator::of(edition, 8);
+        for _ in 0..100 {
+            let sheet = generator.longest();
+            let bytes = sheet.encode(edition);
+            assert_eq!(bytes.len(), longest);
+            assert_eq!(read(edition, &bytes), Ok(sheet));
+        }
+    }
 }
 
 /// The modules of 10,000 small sheets.

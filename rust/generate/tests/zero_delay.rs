@@ -13,20 +13,67 @@ fn found_as_made(edition: Edition, network: &ZeroDelay) {
     assert_eq!(answer, expected, "{:?}", network.sheet);
 }
 
+fn rings(edition: Edition, next: fn(&mut Generator) -> ZeroDelay) {
+    let mut generator = Generator::of(edition, 10);
+    let mut without = 0;
+    for _ in 0..20_000 {
+        let network = next(&mut generator);
+        found_as_made(edition, &network);
+        without += usize::from(network.on_loops.is_empty());
+    }
+    assert!(
+        (5_000..=10_000).contains(&without),
+        "{without} have no loop"
+    );
+}
+
 #[test]
 fn rings_among_other_modules() {
     for edition in Edition::ALL {
-        let mut generator = Generator::of(edition, 10);
-        let mut without = 0;
-        for _ in 0..20_000 {
-            let network = generator.zero_delay();
-            found_as_made(edition, &network);
-            without += usize::from(network.on_loops.is_empty());
+        rings(edition, Generator::zero_delay);
+        rings(edition, Generator::zero_delay_of_several_drivers);
+    }
+}
+
+/// The sheet with only the first or only the last of each node's drivers.
+fn of_one_driver(sheet: &Sheet, is_last: bool) -> Sheet {
+    let mut modules: Vec<Module> = Vec::new();
+    for &module in &sheet.modules {
+        let known = modules
+            .iter_mut()
+            .find(|known| known.output == module.output);
+        match known {
+            Some(known) if is_last => *known = module,
+            Some(_) => {}
+            None => modules.push(module),
         }
-        assert!(
-            (5_000..=10_000).contains(&without),
-            "{without} have no loop"
-        );
+    }
+    Sheet {
+        modules,
+        ..sheet.clone()
+    }
+}
+
+/// Loops that whoever knows one driver of each node does not find, or finds elsewhere.
+#[test]
+fn loops_over_any_of_several_drivers() {
+    for edition in Edition::ALL {
+        let mut generator = Generator::of(edition, 14);
+        let mut met = [0; 2];
+        for _ in 0..20_000 {
+            let ZeroDelay { sheet, on_loops } = generator.zero_delay_of_several_drivers();
+            let is_shared = |node: &u8| sheet.drivers(*node).count() > 1;
+            if !on_loops.iter().any(is_shared) {
+                continue;
+            }
+            let answer = |sheet: &Sheet| check(edition, &sheet.encode(edition));
+            for (met, is_last) in met.iter_mut().zip([false, true]) {
+                let one = answer(&of_one_driver(&sheet, is_last));
+                *met += u32::from(one != answer(&sheet));
+            }
+        }
+        println!("{edition:?}: {met:?} loops are hidden from the first and the last driver");
+        assert!(met.iter().all(|&met| met >= 500), "{met:?}");
     }
 }
 
@@ -38,7 +85,8 @@ fn unused_inputs_close_no_loop() {
             let network = generator.closed_by_unused_inputs();
             assert_eq!(network.on_loops, []);
             // Node 0 is driven without delay by a module that lacks an input of the record.
-            let driver = network.sheet.driver(0).expect("node 0 is driven");
+            let drivers: Vec<usize> = network.sheet.drivers(0).collect();
+            let driver = &network.sheet.modules[drivers[0]];
             assert_eq!(driver.delay, 0);
             let lacks = match edition {
                 Edition::First => INVERTER,

@@ -1,8 +1,9 @@
 //! The plain cell-by-cell simulator of timing networks.
 //!
 //! Written from documents 01 and 02 alone and kept literal rather than fast, so that it can be the
-//! yardstick for the proved library: the whole history of every node is kept, a memory searches
-//! back through it, and pending changes are counted from differences of cells.
+//! yardstick for the proved library: the whole history of every node and of every module's
+//! contribution is kept, a memory searches back through it, and pending changes are counted from
+//! differences of contributions.
 
 #![forbid(unsafe_code)]
 
@@ -11,6 +12,7 @@ mod cells;
 mod convert;
 mod edition;
 mod gate;
+mod join;
 mod level;
 mod listing;
 mod pending;
@@ -27,10 +29,11 @@ pub mod worked_run;
 mod zero_delay;
 
 pub use answer::Answer;
-pub use cells::cells;
+pub use cells::{cells, timelines, Timelines};
 pub use convert::convert;
 pub use edition::Edition;
 pub use gate::{in_set, rule};
+pub use join::join;
 pub use level::{HIGH, LOW, NONE, UNKNOWN};
 pub use listing::run;
 pub use pending::pending;

@@ -1,7 +1,7 @@
 //! A run to its horizon: the listing, and refusals 1, 19 and 20.
 
 use crate::answer::Answer;
-use crate::cells::cells;
+use crate::cells::{timelines, Timelines};
 use crate::edition::Edition;
 use crate::pending::pending;
 use crate::read::read;
@@ -11,21 +11,21 @@ use crate::sheet::Sheet;
 /// Runs the sheet to the horizon and writes its records to the front of `listing`.
 pub fn run(edition: Edition, sheet: &[u8], horizon: u32, listing: &mut [u8]) -> Answer {
     match settled(edition, sheet, horizon) {
-        Ok((sheet, cells)) => list(&sheet, &cells, horizon, listing),
+        Ok((sheet, timelines)) => list(&sheet, &timelines, horizon, listing),
         Err(refusal) => refusal,
     }
 }
 
-/// The sheet and its cells up to the horizon, or the refusal met before the first tick.
+/// The sheet and its timelines up to the horizon, or the refusal met before the first tick.
 pub(crate) fn settled(
     edition: Edition,
     sheet: &[u8],
     horizon: u32,
-) -> Result<(Sheet, Vec<Vec<u8>>), Answer> {
+) -> Result<(Sheet, Timelines), Answer> {
     horizon_in_range(horizon)?;
     let sheet = read(edition, sheet)?;
-    let cells = cells(&sheet, horizon);
-    Ok((sheet, cells))
+    let timelines = timelines(&sheet, horizon);
+    Ok((sheet, timelines))
 }
 
 /// Refusal 1.
@@ -37,9 +37,15 @@ pub(crate) fn horizon_in_range(horizon: u32) -> Result<(), Answer> {
 }
 
 /// Nothing is written before it is known which ticks are listed, for no end lies past them.
-pub(crate) fn list(sheet: &Sheet, cells: &[Vec<u8>], horizon: u32, listing: &mut [u8]) -> Answer {
-    let answer = answer(sheet, cells, listing.len() / Record::BYTES);
+pub(crate) fn list(
+    sheet: &Sheet,
+    timelines: &Timelines,
+    horizon: u32,
+    listing: &mut [u8],
+) -> Answer {
+    let answer = answer(sheet, timelines, listing.len() / Record::BYTES);
     let bound = bound(answer, horizon);
+    let cells = &timelines.cells;
     let records = (0..bound).flat_map(|tick| records_at(sheet, cells, tick, bound));
     let mut places = listing.chunks_exact_mut(Record::BYTES);
     for record in records {
@@ -50,10 +56,10 @@ pub(crate) fn list(sheet: &Sheet, cells: &[Vec<u8>], horizon: u32, listing: &mut
 }
 
 /// What a run answers whose buffer has room for so many records.
-fn answer(sheet: &Sheet, cells: &[Vec<u8>], room: usize) -> Answer {
+fn answer(sheet: &Sheet, timelines: &Timelines, room: usize) -> Answer {
     let mut count = 0;
-    for (tick, pending) in (0..).zip(pending(sheet, cells)) {
-        let records = listed_at(sheet, cells, tick).count();
+    for (tick, pending) in (0..).zip(pending(sheet, timelines)) {
+        let records = listed_at(sheet, &timelines.cells, tick).count();
         if count + records > room {
             return refused(19, tick, count);
         }

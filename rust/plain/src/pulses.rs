@@ -48,13 +48,13 @@ fn short_pulses(
 ) -> Result<(Vec<Pulse>, u32), Answer> {
     horizon_in_range(horizon)?;
     width_in_range(width)?;
-    let (sheet, cells) = settled(edition, sheet, horizon)?;
-    let answer = list(&sheet, &cells, horizon, listing);
+    let (sheet, timelines) = settled(edition, sheet, horizon)?;
+    let answer = list(&sheet, &timelines, horizon, listing);
     let Answer::Ran { count } = answer else {
         return Err(answer);
     };
     let starts = 1..horizon;
-    let pulses = starts.flat_map(|start| pulses_from(&sheet, &cells, start));
+    let pulses = starts.flat_map(|start| pulses_from(&sheet, &timelines.cells, start));
     let short = pulses.filter(|pulse| pulse.length < width);
     Ok((short.collect(), count))
 }

@@ -1,5 +1,5 @@
 //! Reading a sheet: refusals 2 to 18, in the order in which they are met. Of them 15 is met by a
-//! strict check alone.
+//! strict check alone, and 9 no more: several modules may drive a node (document 02, W-209).
 
 use crate::answer::Answer;
 use crate::edition::Edition;
@@ -71,7 +71,7 @@ fn read_modules(edition: Edition, reader: &mut Reader, sheet: &mut Sheet) -> Res
     Ok(())
 }
 
-/// The first of 5 to 9 that the module meets after the modules read so far.
+/// The first of 5 to 8 that the module meets.
 fn module_refusal(edition: Edition, module: &Module, sheet: &Sheet) -> Option<u32> {
     if module.kind > edition.greatest_kind() {
         Some(5)
@@ -81,8 +81,6 @@ fn module_refusal(edition: Edition, module: &Module, sheet: &Sheet) -> Option<u3
         Some(7)
     } else if module.delay > 10_000 {
         Some(8)
-    } else if sheet.driver(module.output).is_some() {
-        Some(9)
     } else {
         None
     }
@@ -105,8 +103,7 @@ fn nodes_allowed(module: &Module, sheet: &Sheet) -> bool {
 /// Refusal 10: a node's byte says input exactly where no module drives it.
 fn after_modules(sheet: &Sheet) -> Result<(), Answer> {
     for (node, &byte) in sheet.node_numbers().zip(&sheet.nodes) {
-        let driven = sheet.driver(node).is_some();
-        if driven == (byte == INPUT) {
+        if sheet.is_driven(node) == (byte == INPUT) {
             return Err(Answer::unread(10, usize::from(node)));
         }
     }

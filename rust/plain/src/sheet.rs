@@ -51,9 +51,15 @@ impl Sheet {
         bytes
     }
 
-    /// The first module listed that drives `node`; an input has none.
-    pub fn driver(&self, node: u8) -> Option<&Module> {
-        self.modules.iter().find(|module| module.output == node)
+    /// The modules that drive `node`, numbered as they are listed; an input has none.
+    pub fn drivers(&self, node: u8) -> impl Iterator<Item = usize> + '_ {
+        let modules = 0..self.modules.len();
+        modules.filter(move |&module| self.modules[module].output == node)
+    }
+
+    /// Whether a module drives `node`, or several do.
+    pub fn is_driven(&self, node: u8) -> bool {
+        self.drivers(node).next().is_some()
     }
 
     /// All node numbers, in order.
@@ -68,7 +74,7 @@ impl Sheet {
 
     /// Whether `node` is an input of the sheet.
     pub fn has_input(&self, node: u8) -> bool {
-        self.has_node(node) && self.driver(node).is_none()
+        self.has_node(node) && !self.is_driven(node)
     }
 }
 

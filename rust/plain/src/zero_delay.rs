@@ -8,8 +8,8 @@ pub(crate) fn least_node_on_a_loop(sheet: &Sheet) -> Option<u8> {
     sheet.node_numbers().find(|&node| leads_back(&links, node))
 }
 
-/// For each node the outputs of the zero-delay modules that have it as a used input. An unused
-/// input's 0 is no link from node 0.
+/// For each node the outputs of the zero-delay modules that have it as a used input, whatever else
+/// drives them. An unused input's 0 is no link from node 0.
 fn links(sheet: &Sheet) -> Vec<Vec<u8>> {
     let mut links = vec![Vec::new(); sheet.nodes.len()];
     for module in sheet.modules.iter().filter(|module| module.delay == 0) {

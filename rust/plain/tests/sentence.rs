@@ -43,9 +43,9 @@ fn sentences() {
              the sheet's byte 17; records written: 0",
         ),
         (
-            refused(23, 8_704, 0),
+            refused(23, 8_712, 0),
             "refused: the output buffer is shorter than the sheet to be written, length needed \
-             8704; records written: 0",
+             8712; records written: 0",
         ),
         (
             refused(24, 0, 0),

@@ -10,7 +10,8 @@ const START_OF_TWO: u16 = 8;
 const START_OF_THREE: u16 = 104;
 const NO_TABLE: u16 = 488;
 
-/// The bytes of a module: kind, parameter, output, the three inputs, and two unused.
+/// The bytes of a module: kind, parameter, output, the three inputs, 1 where its output has other drivers and
+/// else 0, and one unused.
 pub type Bytes = [u8; 8];
 
 pub struct Tables {
@@ -23,11 +24,14 @@ pub struct Tables {
     delays: Vec<u16>,
     /// How many of them are delayed. They stand first.
     delayed: usize,
+    /// Whether a node has several drivers. Where none has, no flag is looked at.
+    pub shared: bool,
 }
 
 impl Tables {
     pub fn new(sheet: &Sheet) -> Tables {
         let order = in_working_order(sheet);
+        let has_others = |output| sheet.drivers(output).count() > 1;
         let bytes = order.iter().map(|m| {
             [
                 m.kind,
@@ -36,7 +40,7 @@ impl Tables {
                 m.first,
                 m.second,
                 m.third,
-                0,
+                u8::from(has_others(m.output)),
                 0,
             ]
         });
@@ -46,6 +50,7 @@ impl Tables {
             starts: order.iter().map(|module| start(module.kind)).collect(),
             delays: order.iter().map(|module| module.delay).collect(),
             delayed: order.iter().filter(|module| module.delay > 0).count(),
+            shared: order.iter().any(|module| has_others(module.output)),
         }
     }
 
@@ -57,6 +62,11 @@ impl Tables {
     /// The output of the module at a position.
     pub fn output(&self, position: usize) -> u8 {
         self.modules[position][2]
+    }
+
+    /// Whether the node that the module at a position drives has other drivers.
+    pub fn has_others(&self, position: usize) -> bool {
+        self.shared && self.modules[position][6] != 0
     }
 
     /// The delayed modules with their starts and delays.

@@ -1,9 +1,10 @@
 //! One tick: the modules are worked, and then the tick's records are listed.
 
 use generate::limits::RECORD_BYTES;
-use plain::{Event, Sheet, INPUT, UNKNOWN};
+use plain::{Event, Sheet};
 
 use super::changes::Changes;
+use super::nodes::Nodes;
 use super::tables::Tables;
 
 /// No value: a node that has not been shown.
@@ -24,9 +25,8 @@ pub struct Tick<'a> {
     /// The events that are still to come.
     drive: &'a [Event],
     watched: &'a [u8],
-    /// The present value of each node.
-    values: [u8; 256],
-    /// What each module came to last, by position.
+    nodes: Nodes,
+    /// What each delayed module came to last, by position.
     last: [u8; 256],
     /// The value of each watched node that was listed last.
     shown: [u8; 256],
@@ -38,20 +38,17 @@ pub struct Tick<'a> {
 impl<'a> Tick<'a> {
     pub fn new(sheet: &'a Sheet, horizon: u32) -> Tick<'a> {
         let tables = Tables::new(sheet);
-        let mut values = [0; 256];
-        for (value, &byte) in values.iter_mut().zip(&sheet.nodes) {
-            *value = if byte == INPUT { UNKNOWN } else { byte };
-        }
+        let nodes = Nodes::new(sheet, &tables);
         let mut last = [0; 256];
         for (last, output) in last.iter_mut().zip(tables.outputs()) {
-            *last = values[usize::from(output)];
+            *last = nodes.values[usize::from(output)];
         }
         Tick {
             horizon,
             tables,
             drive: &sheet.drive,
             watched: &sheet.watched,
-            values,
+            nodes,
             last,
             shown: [NOT_SHOWN; 256],
             places: [NO_RECORD; 256],
@@ -62,7 +59,7 @@ impl<'a> Tick<'a> {
     /// Works the modules. Answers how many changes are pending then.
     pub fn work(&mut self, tick: u32) -> usize {
         self.drive_all(tick);
-        self.changes.apply_due(tick, &self.tables, &mut self.values);
+        self.changes.apply_due(tick, &self.tables, &mut self.nodes);
         self.settle_all();
         self.schedule_all(tick);
         self.changes.count()
@@ -73,7 +70,7 @@ impl<'a> Tick<'a> {
             if event.tick != tick {
                 return;
             }
-            self.values[usize::from(event.node)] = event.value;
+            self.nodes.values[usize::from(event.node)] = event.value;
             self.drive = rest;
         }
     }
@@ -81,13 +78,14 @@ impl<'a> Tick<'a> {
     /// Works the modules of delay zero in their order.
     #[inline(never)]
     fn settle_all(&mut self) {
-        let (from, modules) = self.tables.zero_delay();
-        for ((module, start), last) in modules.zip(&mut self.last[from..]) {
-            let value = self.tables.comes_to(module, start, &self.values, *last);
-            let [_, _, output, ..] = *module;
-            self.values[usize::from(output)] = value;
-            *last = value;
-        }
+        let tables = &self.tables;
+        let (from, modules) = tables.zero_delay();
+        self.nodes.settle(
+            from,
+            tables.shared,
+            modules,
+            |module, start, values, held| tables.comes_to(module, start, values, held),
+        );
     }
 
     /// Schedules what each delayed module comes to, if that differs from what it came to last.
@@ -95,7 +93,8 @@ impl<'a> Tick<'a> {
     fn schedule_all(&mut self, tick: u32) {
         let delayed = self.tables.delayed().zip(&mut self.last).enumerate();
         for (position, ((module, start, delay), last)) in delayed {
-            let value = self.tables.comes_to(module, start, &self.values, *last);
+            let values = &self.nodes.values;
+            let value = self.tables.comes_to(module, start, values, *last);
             if value == *last {
                 continue;
             }
@@ -108,7 +107,7 @@ impl<'a> Tick<'a> {
     }
 
     fn is_fresh(&self, node: u8) -> bool {
-        self.values[usize::from(node)] != self.shown[usize::from(node)]
+        self.nodes.values[usize::from(node)] != self.shown[usize::from(node)]
     }
 
     /// How many watched nodes have a value that is not the one shown last.
@@ -133,7 +132,7 @@ impl<'a> Tick<'a> {
     /// The record of a node's value, whose end is not known yet.
     fn record(&self, tick: u32, node: u8) -> Record {
         let [t0, t1, t2, t3] = tick.to_le_bytes();
-        let value = self.values[usize::from(node)];
+        let value = self.nodes.values[usize::from(node)];
         [t0, t1, t2, t3, node, value, 0, 0, 0, 0]
     }
 
@@ -155,7 +154,7 @@ impl<'a> Tick<'a> {
     /// The values of the watched nodes are now shown.
     pub fn show_all(&mut self) {
         for &node in self.watched {
-            self.shown[usize::from(node)] = self.values[usize::from(node)];
+            self.shown[usize::from(node)] = self.nodes.values[usize::from(node)];
         }
     }
 }

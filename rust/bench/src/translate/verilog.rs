@@ -1,10 +1,11 @@
 //! A sheet as Verilog. Tick t is time t + 1: at time 0 every node has the value it begins with,
-//! and at time 1 every module is worked.
+//! and at time 1 every module is worked. A node of several drivers is a net, to which a variable for each
+//! driver's contribution is assigned.
 
 use generate::sheets::*;
 use plain::{Module, Sheet};
 
-use super::{first_value, later_events, members, name};
+use super::{first_value, is_shared, later_events, members, name};
 
 pub fn text(sheet: &Sheet, horizon: u32) -> String {
     let mut lines = vec![
@@ -14,11 +15,11 @@ pub fn text(sheet: &Sheet, horizon: u32) -> String {
         "initial #1 go = 1;".to_string(),
     ];
     for node in sheet.node_numbers() {
-        let first = value(first_value(sheet, node));
-        lines.push(format!("reg {} = {first};", name(node)));
+        lines.extend(declarations(sheet, node));
         lines.extend(events(sheet, node));
     }
-    lines.extend(sheet.modules.iter().map(process));
+    let modules = 0..sheet.modules.len();
+    lines.extend(modules.map(|place| process(sheet, place)));
     lines.push(monitor(sheet));
     lines.push(format!("initial #{} $finish;", horizon + 1));
     lines.push("endmodule\n".to_string());
@@ -27,6 +28,26 @@ pub fn text(sheet: &Sheet, horizon: u32) -> String {
 
 fn value(level: u8) -> &'static str {
     ["1'b0", "1'b1", "1'bx", "1'bz"][usize::from(level)]
+}
+
+fn declarations(sheet: &Sheet, node: u8) -> Vec<String> {
+    let first = value(first_value(sheet, node));
+    let node_name = name(node);
+    if !is_shared(sheet, node) {
+        return vec![format!("reg {node_name} = {first};")];
+    }
+    let mut lines = vec![format!("wire {node_name};")];
+    for place in sheet.drivers(node) {
+        let given = contribution(place);
+        lines.push(format!("reg {given} = {first};"));
+        lines.push(format!("assign {node_name} = {given};"));
+    }
+    lines
+}
+
+/// A name for what a module contributes.
+fn contribution(place: usize) -> String {
+    format!("m{place}")
 }
 
 /// Waits from event to event of an input.
@@ -44,12 +65,16 @@ fn events(sheet: &Sheet, node: u8) -> Option<String> {
 
 /// A module as a process that is woken by its used inputs. An assignment that is delayed passes
 /// every pulse.
-fn process(module: &Module) -> String {
+fn process(sheet: &Sheet, place: usize) -> String {
+    let module = &sheet.modules[place];
     let used = module
         .used_inputs()
         .map(|node| format!(" or {}", name(node)));
     let woken: String = used.collect();
-    let output = name(module.output);
+    let output = match is_shared(sheet, module.output) {
+        true => contribution(place),
+        false => name(module.output),
+    };
     let assigned = match module.delay {
         0 => format!("{output} = {}", result(module)),
         delay => format!("{output} <= #{delay} {}", result(module)),

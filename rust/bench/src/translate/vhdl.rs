@@ -1,9 +1,10 @@
-//! A sheet as VHDL. Tick t is time t.
+//! A sheet as VHDL. Tick t is time t. Each module is a driver of its own, which begins with the node's
+//! initial value.
 
 use generate::sheets::*;
 use plain::{Module, Sheet};
 
-use super::{first_value, later_events, members, name};
+use super::{first_value, is_shared, later_events, members, name};
 
 pub fn text(sheet: &Sheet, horizon: u32) -> String {
     let mut lines = vec![
@@ -13,7 +14,11 @@ pub fn text(sheet: &Sheet, horizon: u32) -> String {
     ];
     for node in sheet.node_numbers() {
         let first = value(first_value(sheet, node));
-        lines.push(format!("signal {} : std_ulogic := {first};", name(node)));
+        let kind = match is_shared(sheet, node) {
+            true => "std_logic",
+            false => "std_ulogic",
+        };
+        lines.push(format!("signal {} : {kind} := {first};", name(node)));
     }
     lines.push("begin".to_string());
     lines.extend(sheet.node_numbers().filter_map(|node| events(sheet, node)));

@@ -7,10 +7,13 @@ use compare::hex;
 use generate::limits::RECORD_BYTES;
 use generate::shared::{four_buffers, toggled};
 use generate::sheets::constant;
-use generate::{by_hand, conversions_by_hand, pulses_by_hand, runs_by_hand, Generator, Size};
+use generate::{
+    by_hand, conversions_by_hand, drivers_by_hand, pulses_by_hand, runs_by_hand, Generator,
+};
 use plain::{sentence, worked_run, Answer, Edition, Sheet, HIGH};
 
 use crate::compiled::Program;
+use crate::header::macro_of;
 
 static CALLS: LazyLock<Program> = LazyLock::new(|| Program::new("calls"));
 
@@ -151,7 +154,7 @@ fn refusals_of_a_run() {
     }
 }
 
-/// Every sheet worked out by hand, checked, checked strictly and run: refusals 2 to 18, 15 strictly
+/// Every sheet worked out by hand, checked, checked strictly and run: refusals 2 to 18 but 9, 15 strictly
 /// alone, and 19 for the small buffer.
 #[test]
 fn sheets_worked_out_by_hand() {
@@ -168,14 +171,15 @@ fn sheets_worked_out_by_hand() {
         }
         let [check, strict, run] = met;
         let without = |number: u32| move |met: &u32| *met != number;
-        assert_eq!(strict, [0].into_iter().chain(2..=18).collect());
+        let numbers = [0].into_iter().chain(2..=18);
+        assert_eq!(strict, numbers.filter(without(9)).collect());
         assert_eq!(check, strict.iter().copied().filter(without(15)).collect());
         assert_eq!(run, check.iter().copied().chain([19]).collect());
     }
 }
 
-/// Document 02's W-207 from C, the worked run's sheet included: refusals 2 to 18 but 15, 22 and 23, and what
-/// is written.
+/// Document 02's W-207 from C, the worked run's sheet included: refusals 2 to 18 but 9 and 15, 22 and 23, and
+/// what is written.
 #[test]
 fn conversions_worked_out_by_hand() {
     for case in conversions_by_hand::cases() {
@@ -205,10 +209,27 @@ fn runs_of_three_inputs() {
     }
 }
 
+/// Document 02's W-209 from C.
+#[test]
+fn runs_of_several_drivers() {
+    for case in drivers_by_hand::cases() {
+        for edition in Edition::ALL {
+            let sheet = case.sheet.encode(edition);
+            let answer = ran(edition, &sheet, case.horizon, case.bytes, case.name);
+            assert_eq!(answer, case.answer, "{}", case.name);
+            assert_eq!(checked(edition, &sheet, case.name)[0], 0, "{}", case.name);
+        }
+    }
+}
+
 #[test]
 fn a_full_sheet() {
-    for edition in Edition::ALL {
-        let sheet = Generator::of(edition, 4).valid(Size::Full).encode(edition);
+    for (edition, name) in [
+        (Edition::First, "TIMING_LONGEST_SHEET"),
+        (Edition::Second, "TIMING_LONGEST_SHEET_2"),
+    ] {
+        let sheet = Generator::of(edition, 4).longest().encode(edition);
+        assert_eq!(sheet.len(), macro_of(name) as usize);
         let [number, ..] = ran(edition, &sheet, 20, 60_000, "full");
         assert_eq!(number, 0);
         let [number, ..] = reported(edition, &sheet, [20, 20], [60_000, 60_000], "full");

@@ -42,7 +42,7 @@ fn cases(file: &str, word: &str) -> Vec<Named> {
     found
 }
 
-/// Every refusal's name and number: 2 to 18, then those of a run, that of a description, those of a
+/// Every refusal's name and number: 2 to 18 but 9, then those of a run, that of a description, those of a
 /// conversion, of which the last is that of any sheet to be written, and those of a report of pulses.
 pub fn refusals() -> Vec<Named> {
     let of_a_sheet = cases("format/specs/Condition.antt", "ConditionBy ");

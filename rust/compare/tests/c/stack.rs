@@ -6,7 +6,7 @@ use plain::{worked_run, Edition};
 use crate::compiled::Program;
 use crate::header::macro_of;
 
-/// Refused at once, small, and every section at its limit. Of those in the second edition half have the
+/// Refused at once, small, and every section at its limit, half of them with several drivers a node. Of those in the second edition half have the
 /// first's kinds alone, so that they are converted.
 fn sheets(edition: Edition) -> Vec<Vec<u8>> {
     let kinds_of = match edition {
@@ -15,7 +15,13 @@ fn sheets(edition: Edition) -> Vec<Vec<u8>> {
     };
     let full = kinds_of.iter().flat_map(|&kinds_of| {
         let mut generator = Generator::of(kinds_of, 5);
-        (0..8).map(move |_| generator.valid(Size::Full).encode(edition))
+        (0..8).map(move |place| {
+            let sheet = match place % 2 {
+                0 => generator.valid(Size::Full),
+                _ => generator.longest(),
+            };
+            sheet.encode(edition)
+        })
     });
     let others = [Vec::new(), worked_run::sheet().encode(edition)];
     others.into_iter().chain(full).collect()

@@ -16,7 +16,7 @@ fn needed(from: Edition, sheet: &[u8]) -> usize {
 
 /// What is never answered: by a conversion, by one to the second edition, for such an output.
 fn never(from: Edition, output: Output) -> Vec<usize> {
-    let mut never = vec![1, 15, 19, 20, 21];
+    let mut never = vec![1, 9, 15, 19, 20, 21];
     never.extend((from == Edition::First).then_some(22));
     never.extend(match output {
         Output::Empty | Output::ByteShort => Some(0),

@@ -1,19 +1,20 @@
 //! The longest sheets, and the most modules.
 
+use generate::limits::LONGEST_SHEETS;
 use generate::sheets::*;
-use generate::{Generator, Size};
+use generate::Generator;
 use plain::Edition;
 
 use crate::agreed::{agreed, Outcome};
 
-/// With an input, and so with a drive, there are 255 modules at most: so many bytes are gained and lost.
+/// Every section is full: with 256 modules so many bytes are gained and lost.
 #[test]
 fn the_longest_sheets() {
     let mut generator = Generator::new(3);
-    let mut lengths = Vec::new();
     for _ in 0..20 {
-        let sheet = generator.valid(Size::Full);
+        let sheet = generator.longest();
         let [first, second] = Edition::ALL.map(|edition| sheet.encode(edition));
+        assert_eq!([first.len(), second.len()], LONGEST_SHEETS);
         for (from, given, other) in [
             (Edition::First, &first, &second),
             (Edition::Second, &second, &first),
@@ -31,9 +32,7 @@ fn the_longest_sheets() {
             let refused = [17, given.len() as u32, 0];
             assert_eq!(into(&left_over, needed + 1).answer, refused);
         }
-        lengths.push([first.len(), second.len()]);
     }
-    assert_eq!(lengths.into_iter().max(), Some([8_449, 8_704]));
 }
 
 /// Each of 256 modules in turn is the only one with a kind that the first edition lacks.

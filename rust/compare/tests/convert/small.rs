@@ -23,6 +23,10 @@ fn every_truncation() {
             .map(|size| generator.valid(size))
             .to_vec();
         sheets.extend([worked_run::sheet(), by_hand::start(), by_hand::start_2()]);
+        sheets.extend([
+            by_hand::two_drivers(),
+            generator.several_drivers(Size::Small),
+        ]);
         for sheet in sheets {
             for cut in every::truncations(&sheet.encode(from)) {
                 for [number, ..] in agreed_twice(from, cut, "cut short") {
@@ -53,6 +57,7 @@ fn every_value_of_every_byte() {
         (worked_run::sheet(), &[6][..], true),
         (by_hand::start(), &[7, 15], true),
         (by_hand::start_2(), &[8, 16], false),
+        (by_hand::two_drivers(), &[7, 15, 23], true),
     ] {
         let (places, numbers) = changed(Edition::Second, &sheet);
         assert_eq!(places, records.iter().copied().collect());

@@ -2,13 +2,14 @@
 //! its own say of the given one.
 
 use compare::{check, check_strict, converted, count, hex, seed};
+use generate::drivers::has_several_drivers;
 use generate::Generator;
-use plain::Edition;
+use plain::{read, Edition};
 
 fn generated(from: Edition) {
     let seed = seed();
     let mut generator = Generator::of(from, seed);
-    let [mut begun, mut begun_late] = [0u64; 2];
+    let [mut begun, mut begun_late, mut several_drivers] = [0u64; 3];
     for place in 0..count(100_000) {
         let sheet = generator.to_convert();
         let Ok(there) = converted(from, &sheet) else {
@@ -25,9 +26,13 @@ fn generated(from: Edition) {
             [15, _, 0] => begun_late += 1,
             answer => panic!("{answer:?}, {whence}"),
         }
+        let accepted = read(from, &sheet);
+        several_drivers += u64::from(accepted.is_ok_and(|sheet| has_several_drivers(&sheet)));
     }
     println!("{from:?}: {begun} sheets whose inputs all begin at tick 0, {begun_late} others");
+    println!("{from:?}: {several_drivers} sheets with several drivers a node");
     assert!(begun >= 10_000 && begun_late >= 5_000, "seed {seed}");
+    assert!(several_drivers >= 5_000, "seed {seed}");
 }
 
 #[test]

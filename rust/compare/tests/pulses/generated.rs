@@ -1,6 +1,7 @@
 //! Generated sheets, good and bad, with widths, listings and reports of every sort.
 
 use compare::{count, seed};
+use generate::drivers::has_several_drivers;
 use generate::limits::PULSE_BYTES;
 use generate::pulses::{shorter, PulsesMet};
 use generate::sheets::{pulses, records, Record};
@@ -40,6 +41,8 @@ struct Met {
     /// How often each sort of report was lent to a run that finishes, and how often it was too short.
     rooms: [[u64; 2]; Room::ALL.len()],
     pulses: PulsesMet,
+    /// Finished reports that have a pulse of a sheet with several drivers a node.
+    of_several_drivers: u64,
 }
 
 impl Met {
@@ -55,9 +58,20 @@ impl Met {
         }
     }
 
-    /// Asserts that everything was met often. A report never meets 15, nor what other calls answer.
+    /// Adds a finished report with this many pulses.
+    fn add_drivers(&mut self, pulses: u32, edition: Edition, input: &PulsesInput) {
+        let has_pulse = pulses > 0;
+        let is_shared = || {
+            let sheet = plain::read(edition, &input.run.sheet);
+            sheet.is_ok_and(|sheet| has_several_drivers(&sheet))
+        };
+        self.of_several_drivers += u64::from(has_pulse && is_shared());
+    }
+
+    /// Asserts that everything was met often. A report never meets 9 or 15, nor what other calls answer.
     fn assert_often(&self, whence: &str) {
-        assert_met(&self.numbers, 100, &[15, 21, 22, 23], whence);
+        assert_met(&self.numbers, 100, &[9, 15, 21, 22, 23], whence);
+        assert!(self.of_several_drivers >= 1_000, "{whence}: {self:?}");
         assert!(self.numbers[0] >= 30_000, "{whence}: {self:?}");
         assert!(self.numbers[25] >= 10_000, "{whence}: {self:?}");
         for (room, [lent, too_short]) in Room::ALL.into_iter().zip(self.rooms) {
@@ -85,8 +99,11 @@ fn generated(edition: Edition) {
             bytes,
         } = rooms(&mut buffers, edition, &input);
         let whence = format!("seed {seed}, report {place}, {listing:?}, {report:?}");
-        let ([number, ..], records) = reported(edition, &input, bytes, &whence);
-        met.add(number, report, &input, &records);
+        let (answer, records) = reported(edition, &input, bytes, &whence);
+        met.add(answer[0], report, &input, &records);
+        if let [0, 0, pulses] = answer {
+            met.add_drivers(pulses, edition, &input);
+        }
     }
     println!("{edition:?}, seed {seed}: {met:?}");
     met.assert_often(&format!("{edition:?}, seed {seed}"));

@@ -1,15 +1,16 @@
-//! A small event-driven simulator, which can be given each of document 01's faults.
+//! A small event-driven simulator, which can be given each of document 01's faults, and faults with nodes
+//! that have several drivers.
 
-use std::collections::BTreeMap;
+use std::collections::{BTreeMap, BTreeSet};
 
 use generate::ends::ended;
 use generate::sheets::{Change, Record, MEMORY};
-use plain::{in_set, rule, Module, Sheet, INPUT, UNKNOWN};
+use plain::{in_set, join, rule, Module, Sheet, HIGH, INPUT, LOW, NONE, UNKNOWN};
 
-/// "Faults seen in such simulators", in document 01's order.
 #[derive(Debug, Clone, Copy, PartialEq, Eq)]
 pub enum Fault {
-    /// A module is settled at the first change in a tick.
+    /// "Faults seen in such simulators", in document 01's order. A module is settled at the first change in
+    /// a tick.
     FirstChange,
     /// A new result is compared with the node's present value, not with the last one scheduled.
     PresentValue,
@@ -19,28 +20,62 @@ pub enum Fault {
     QuietStart,
     /// A memory is worked at values that pass inside a tick.
     PassingValue,
+    /// Of contributions to one node: Z wins over a value.
+    NoneWins,
+    /// The driver that is listed last wins.
+    LastDriver,
+    /// A clash of 0 and 1 gives 0.
+    ClashIsLow,
+    /// What is pending is counted once for each node and tick.
+    PendingOnNode,
+    /// A node's first driver is forgotten once it has another.
+    Forgotten,
 }
 
-pub const FAULTS: [Fault; 5] = [
+pub const FAULTS: [Fault; 10] = [
     Fault::FirstChange,
     Fault::PresentValue,
     Fault::Swallowed,
     Fault::QuietStart,
     Fault::PassingValue,
+    Fault::NoneWins,
+    Fault::LastDriver,
+    Fault::ClashIsLow,
+    Fault::PendingOnNode,
+    Fault::Forgotten,
 ];
 
-/// The listing of an accepted sheet up to the horizon, with one fault or none.
-pub fn listing(sheet: &Sheet, horizon: u32, fault: Option<Fault>) -> Vec<Record> {
+/// What a run comes to that nothing refuses.
+#[derive(Debug, PartialEq, Eq)]
+pub struct Outcome {
+    pub records: Vec<Record>,
+    /// The most changes that are pending after a tick.
+    pub most_pending: usize,
+}
+
+/// The run of an accepted sheet up to the horizon, with one fault or none.
+pub fn run(sheet: &Sheet, horizon: u32, fault: Option<Fault>) -> Outcome {
     let mut simulator = Simulator::new(sheet, horizon, fault);
+    let mut most_pending = 0;
     while let Some((tick, changes)) = simulator.pending.pop_first() {
         simulator.tick(tick, &changes);
         simulator.list(tick);
+        most_pending = most_pending.max(simulator.count_pending());
     }
-    ended(&simulator.changes, horizon)
+    Outcome {
+        records: ended(&simulator.changes, horizon),
+        most_pending,
+    }
 }
 
-/// A node and the value it takes.
-type NewValue = (u8, u8);
+/// Whose value is new: an input's, or a module's contribution.
+#[derive(Clone, Copy, PartialEq, Eq)]
+enum Giver {
+    Input(u8),
+    Module(usize),
+}
+
+type NewValue = (Giver, u8);
 
 struct Simulator<'a> {
     sheet: &'a Sheet,
@@ -49,6 +84,10 @@ struct Simulator<'a> {
     /// The zero-delay modules, each after those that drive its used inputs.
     zero_delay: Vec<usize>,
     delayed: Vec<usize>,
+    /// The modules that drive each node.
+    drivers: Vec<Vec<usize>>,
+    /// The present contribution of each module.
+    given: Vec<u8>,
     /// The present value of each node.
     present: Vec<u8>,
     /// What each module came to last, which is also what a memory holds.
@@ -66,15 +105,19 @@ struct Simulator<'a> {
 impl<'a> Simulator<'a> {
     fn new(sheet: &'a Sheet, horizon: u32, fault: Option<Fault>) -> Simulator<'a> {
         let initial = |module: &Module| sheet.nodes[usize::from(module.output)];
+        let given: Vec<u8> = sheet.modules.iter().map(initial).collect();
         let modules = 0..sheet.modules.len();
+        let drivers = sheet.node_numbers().map(|v| sheet.drivers(v).collect());
         Simulator {
             sheet,
             horizon,
             fault,
             zero_delay: working_order(sheet),
             delayed: modules.filter(|&m| sheet.modules[m].delay > 0).collect(),
+            drivers: drivers.collect(),
+            last: given.clone(),
+            given,
             present: sheet.nodes.iter().map(|&byte| first_value(byte)).collect(),
-            last: sheet.modules.iter().map(initial).collect(),
             pending: drive(sheet, horizon),
             changed: vec![false; sheet.nodes.len()],
             listed: vec![None; sheet.nodes.len()],
@@ -86,13 +129,13 @@ impl<'a> Simulator<'a> {
         self.changed.fill(false);
         if self.fault == Some(Fault::FirstChange) && tick > 0 {
             let mut settled = vec![false; self.sheet.modules.len()];
-            for &(node, value) in changes {
-                self.pass_on(tick, node, value, &mut settled);
+            for &change in changes {
+                self.pass_on(tick, change, &mut settled);
             }
             return;
         }
-        for &(node, value) in changes {
-            self.set(node, value);
+        for &change in changes {
+            self.take(change);
         }
         if self.fault == Some(Fault::PassingValue) {
             self.settle_by_passes(tick);
@@ -106,10 +149,38 @@ impl<'a> Simulator<'a> {
         }
     }
 
-    fn set(&mut self, node: u8, value: u8) {
+    /// Takes a new value. Gives its node and whether that has changed.
+    fn take(&mut self, (giver, value): NewValue) -> (u8, bool) {
+        let (node, value) = match giver {
+            Giver::Input(node) => (node, value),
+            Giver::Module(module) => {
+                self.given[module] = value;
+                let node = self.sheet.modules[module].output;
+                (node, self.joined(node))
+            }
+        };
         let place = usize::from(node);
-        self.changed[place] |= self.present[place] != value;
+        let has_changed = self.present[place] != value;
+        self.changed[place] |= has_changed;
         self.present[place] = value;
+        (node, has_changed)
+    }
+
+    /// What the contributions to a node come to.
+    fn joined(&self, node: u8) -> u8 {
+        let drivers = &self.drivers[usize::from(node)];
+        let known = match (self.fault, &drivers[..]) {
+            (Some(Fault::LastDriver), [.., last]) => std::slice::from_ref(last),
+            (Some(Fault::Forgotten), [_, others @ ..]) if !others.is_empty() => others,
+            (_, all) => all,
+        };
+        let given = known.iter().map(|&module| self.given[module]);
+        let join = match self.fault {
+            Some(Fault::NoneWins) => none_wins,
+            Some(Fault::ClashIsLow) => clash_is_low,
+            _ => join,
+        };
+        given.reduce(join).expect("a module drives it")
     }
 
     /// Whether the module is to be worked at this tick.
@@ -124,7 +195,7 @@ impl<'a> Simulator<'a> {
         for module in self.zero_delay.clone() {
             if self.is_due(module, tick) {
                 let value = self.result(module);
-                self.set(self.sheet.modules[module].output, value);
+                self.take((Giver::Module(module), value));
             }
         }
     }
@@ -134,25 +205,24 @@ impl<'a> Simulator<'a> {
         let mut as_listed = self.zero_delay.clone();
         as_listed.sort_unstable();
         loop {
-            let before = self.present.clone();
+            let before = self.given.clone();
             for &module in &as_listed {
                 if self.is_due(module, tick) {
                     let value = self.result(module);
-                    self.set(self.sheet.modules[module].output, value);
+                    self.take((Giver::Module(module), value));
                 }
             }
-            if self.present == before {
+            if self.given == before {
                 return;
             }
         }
     }
 
-    /// Gives the node its value and settles at once what reads it, if it is not settled yet.
-    fn pass_on(&mut self, tick: u32, node: u8, value: u8, settled: &mut [bool]) {
-        if self.present[usize::from(node)] == value {
+    /// Takes the value and settles at once what reads its node, if it is not settled yet.
+    fn pass_on(&mut self, tick: u32, change: NewValue, settled: &mut [bool]) {
+        let (node, true) = self.take(change) else {
             return;
-        }
-        self.set(node, value);
+        };
         for (m, module) in self.sheet.modules.iter().enumerate() {
             if settled[m] || !module.used_inputs().any(|input| input == node) {
                 continue;
@@ -160,7 +230,7 @@ impl<'a> Simulator<'a> {
             settled[m] = true;
             if module.delay == 0 {
                 let value = self.result(m);
-                self.pass_on(tick, module.output, value, settled);
+                self.pass_on(tick, (Giver::Module(m), value), settled);
             } else {
                 self.schedule(m, tick);
             }
@@ -195,12 +265,33 @@ impl<'a> Simulator<'a> {
         if value == before || due >= self.horizon {
             return;
         }
+        let giver = Giver::Module(module);
         if self.fault == Some(Fault::Swallowed) {
             for changes in self.pending.values_mut() {
-                changes.retain(|&(node, _)| node != output);
+                changes.retain(|&(other, _)| other != giver);
             }
         }
-        self.pending.entry(due).or_default().push((output, value));
+        self.pending.entry(due).or_default().push((giver, value));
+    }
+
+    /// How many changes of modules are pending.
+    fn count_pending(&self) -> usize {
+        let changes = self.pending.values().flatten();
+        let of_modules = changes.filter(|(giver, _)| matches!(giver, Giver::Module(_)));
+        match self.fault {
+            Some(Fault::PendingOnNode) => self.pending.values().map(|c| self.nodes_of(c)).sum(),
+            _ => of_modules.count(),
+        }
+    }
+
+    /// How many nodes these changes are for, inputs aside.
+    fn nodes_of(&self, changes: &[NewValue]) -> usize {
+        let node = |&(giver, _): &NewValue| match giver {
+            Giver::Module(module) => Some(self.sheet.modules[module].output),
+            Giver::Input(_) => None,
+        };
+        let nodes: BTreeSet<u8> = changes.iter().filter_map(node).collect();
+        nodes.len()
     }
 
     /// Lists the watched nodes that are not as they were listed last.
@@ -212,6 +303,20 @@ impl<'a> Simulator<'a> {
                 self.changes.push((tick, node, value));
             }
         }
+    }
+}
+
+fn none_wins(one: u8, other: u8) -> u8 {
+    match (one, other) {
+        (NONE, _) | (_, NONE) => NONE,
+        _ => join(one, other),
+    }
+}
+
+fn clash_is_low(one: u8, other: u8) -> u8 {
+    match (one, other) {
+        (LOW, HIGH) | (HIGH, LOW) => LOW,
+        _ => join(one, other),
     }
 }
 
@@ -228,7 +333,7 @@ fn drive(sheet: &Sheet, horizon: u32) -> BTreeMap<u32, Vec<NewValue>> {
     let mut pending = BTreeMap::from([(0, Vec::new())]);
     for event in sheet.drive.iter().filter(|event| event.tick < horizon) {
         let changes: &mut Vec<NewValue> = pending.entry(event.tick).or_default();
-        changes.push((event.node, event.value));
+        changes.push((Giver::Input(event.node), event.value));
     }
     pending
 }

@@ -1,14 +1,16 @@
-//! Document 01's "Faults seen in such simulators": for each a sheet on which a simulator with the
-//! fault goes wrong, and the proved library does not.
+//! Document 01's "Faults seen in such simulators", and faults with nodes that have several drivers: for
+//! each a sheet on which a simulator with the fault goes wrong, and the proved library does not.
 
+use generate::drivers_by_hand;
 use generate::ends::ended;
+use generate::ends_by_hand::Case;
 use generate::shared::memory_after_gates;
 use generate::sheets::*;
 use generate::{room_for_all, Generator, RunInput};
-use plain::{read, renumbered, Edition, Sheet, HIGH, INPUT, LOW, UNKNOWN};
+use plain::{read, renumbered, Edition, Module, Sheet, HIGH, INPUT, LOW, NONE, UNKNOWN};
 
-use crate::agreed::{listed, plain};
-use crate::event_driven::{listing, Fault, FAULTS};
+use crate::agreed::{agreed, listed, plain};
+use crate::event_driven::{run, Fault, Outcome, FAULTS};
 
 const HORIZON: u32 = 30;
 
@@ -17,9 +19,13 @@ const HORIZON: u32 = 30;
 fn shown(fault: Fault, sheet: &Sheet, right: &[Change], wrong: &[Change]) {
     let [right, wrong] = [right, wrong].map(|changes| ended(changes, HORIZON));
     assert_eq!(listed(sheet, HORIZON, "a fault"), right, "the library");
-    assert_eq!(listing(sheet, HORIZON, None), right, "without a fault");
+    assert_eq!(simulated(sheet, None), right, "without a fault");
     assert_ne!(right, wrong);
-    assert_eq!(listing(sheet, HORIZON, Some(fault)), wrong, "{fault:?}");
+    assert_eq!(simulated(sheet, Some(fault)), wrong, "{fault:?}");
+}
+
+fn simulated(sheet: &Sheet, fault: Option<Fault>) -> Vec<Record> {
+    run(sheet, HORIZON, fault).records
 }
 
 #[test]
@@ -75,12 +81,69 @@ fn a_memory_catches_a_passing_value_inside_a_tick() {
     let reversed = renumbered(&as_listed, &[0, 1, 2, 3], &[2, 1, 0]);
     let right = ended(&right, HORIZON);
     assert_eq!(listed(&reversed, HORIZON, "reversed"), right);
-    let faulty = listing(&reversed, HORIZON, Some(Fault::PassingValue));
-    assert_eq!(faulty, right);
+    assert_eq!(simulated(&reversed, Some(Fault::PassingValue)), right);
 }
 
-/// A generated sheet that runs to a short horizon, and its records.
-fn finished(edition: Edition, generator: &mut Generator) -> (Sheet, u32, Vec<Record>) {
+/// An input that is low, then high from tick 5 on, and node 1 with these drivers.
+fn bus(drivers: &[Module]) -> Sheet {
+    let drive = [(0, 0, LOW), (5, 0, HIGH)];
+    sheet(&[INPUT, NONE], drivers, &drive, &[1])
+}
+
+#[test]
+fn z_wins_over_a_value() {
+    let drivers = [gate(BUFFER, [0], 1, 2), constant(NONE, 1, 0)];
+    let right = [(0, 1, 3), (2, 1, 0), (7, 1, 1)];
+    shown(Fault::NoneWins, &bus(&drivers), &right, &right[..1]);
+}
+
+#[test]
+fn the_last_driver_wins() {
+    // The inverter says 1 at first, and then 0.
+    let drivers = [gate(BUFFER, [0], 1, 2), gate(INVERTER, [0], 1, 4)];
+    let right = [(0, 1, 3), (2, 1, 0), (4, 1, 2), (7, 1, 1), (9, 1, 2)];
+    let wrong = [(0, 1, 3), (4, 1, 1), (9, 1, 0)];
+    shown(Fault::LastDriver, &bus(&drivers), &right, &wrong);
+}
+
+#[test]
+fn a_clash_gives_0() {
+    let drivers = [gate(BUFFER, [0], 1, 0), constant(HIGH, 1, 0)];
+    let wrong = [(0, 1, 0), (5, 1, 1)];
+    let right = [(0, 1, 2), (5, 1, 1)];
+    shown(Fault::ClashIsLow, &bus(&drivers), &right, &wrong);
+}
+
+#[test]
+fn a_driver_is_forgotten() {
+    let drivers = [gate(BUFFER, [0], 1, 1), constant(NONE, 1, 0)];
+    let right = [(0, 1, 3), (1, 1, 0), (6, 1, 1)];
+    shown(Fault::Forgotten, &bus(&drivers), &right, &right[..1]);
+}
+
+/// Four drivers have 1,024 changes each and a fifth one, and the node, which stays X, none: they fall on
+/// 1,024 ticks.
+#[test]
+fn pending_changes_are_counted_on_the_node() {
+    let cases = drivers_by_hand::cases().into_iter();
+    let mut refused = cases.filter(|case| case.answer == [20, 1_023, 1_025]);
+    let Case {
+        sheet,
+        horizon,
+        bytes,
+        ..
+    } = refused.next().expect("there is a case");
+    for edition in Edition::ALL {
+        let outcome = agreed(edition, &sheet.encode(edition), horizon, bytes, "crowded");
+        assert_eq!(outcome.answer, [20, 1_023, 1_025]);
+    }
+    let pending = |fault| run(&sheet, horizon, fault).most_pending;
+    assert_eq!(pending(None), 4_097);
+    assert_eq!(pending(Some(Fault::PendingOnNode)), 1_024);
+}
+
+/// A generated sheet that runs to a short horizon, and what comes of it.
+fn finished(edition: Edition, generator: &mut Generator) -> (Sheet, u32, Outcome) {
     loop {
         let RunInput { sheet, horizon } = generator.run_input();
         if !(1..=200).contains(&horizon) {
@@ -89,7 +152,12 @@ fn finished(edition: Edition, generator: &mut Generator) -> (Sheet, u32, Vec<Rec
         let room = room_for_all(edition, &sheet, horizon);
         let outcome = plain(edition, &sheet, horizon, room, "a fault");
         if let (0, Ok(read)) = (outcome.answer[0], read(edition, &sheet)) {
-            return (read, horizon, records(&outcome.listing));
+            let pending = plain::pending(&read, &plain::timelines(&read, horizon));
+            let right = Outcome {
+                records: records(&outcome.listing),
+                most_pending: pending.into_iter().max().expect("there is a tick"),
+            };
+            return (read, horizon, right);
         }
     }
 }
@@ -102,10 +170,10 @@ fn every_fault_is_shown(edition: Edition) {
     let sheets = 4_000;
     for place in 0..sheets {
         let (sheet, horizon, right) = finished(edition, &mut generator);
-        let without = listing(&sheet, horizon, None);
+        let without = run(&sheet, horizon, None);
         assert_eq!(without, right, "seed {seed}, sheet {place}: {sheet:?}");
         for (count, fault) in shown.iter_mut().zip(FAULTS) {
-            *count += u32::from(listing(&sheet, horizon, Some(fault)) != right);
+            *count += u32::from(run(&sheet, horizon, Some(fault)) != right);
         }
     }
     println!("{edition:?}: of {sheets} sheets each of {FAULTS:?} is shown by {shown:?}");

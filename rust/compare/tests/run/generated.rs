@@ -1,6 +1,7 @@
 //! Generated sheets, good and bad, with horizons and buffers of every sort.
 
 use compare::{count, hex, seed};
+use generate::drivers::{has_several_drivers, DriversMet};
 use generate::ends::{changes, ended, last_end, EndsMet};
 use generate::limits::RECORD_BYTES;
 use generate::sheets::{records, Record, MEMORY};
@@ -30,7 +31,14 @@ struct Met {
     /// Finished runs that list a change and have a module of three inputs.
     of_three: u64,
     ends: EndsMet,
+    /// Of finished runs that are not long.
+    drivers: DriversMet,
+    /// Runs refused by 20 whose sheets have several drivers a node.
+    crowded_buses: u64,
 }
+
+/// What drivers say is looked at up to this horizon.
+const NOT_LONG: u32 = 120;
 
 impl Met {
     /// Adds a run: its answer's number, its buffer, whether it lists a change, and its sheet, if that
@@ -48,10 +56,21 @@ impl Met {
         self.of_three += u64::from(is_finished && of_three);
     }
 
-    /// Asserts that everything was met often. A run never meets 15, and only buffers that take the whole
+    /// Adds what the drivers of a sheet's nodes say, where there are several.
+    fn add_drivers(&mut self, number: u32, horizon: u32, sheet: &Sheet) {
+        if !has_several_drivers(sheet) {
+            return;
+        }
+        self.crowded_buses += u64::from(number == 20);
+        if number == 0 && horizon <= NOT_LONG {
+            self.drivers.add(sheet, horizon);
+        }
+    }
+
+    /// Asserts that everything was met often. A run never meets 9 or 15, and only buffers that take the whole
     /// listing are never too short.
     fn assert_often(&self, edition: Edition, seed: u64) {
-        assert_met(&self.numbers, 100, &[15], &format!("seed {seed}"));
+        assert_met(&self.numbers, 100, &[9, 15], &format!("seed {seed}"));
         assert!(self.numbers[0] >= 30_000, "seed {seed}: {self:?}");
         assert!(self.lively >= 10_000, "seed {seed}: {self:?}");
         assert!(self.begun_unknown >= 10_000, "seed {seed}: {self:?}");
@@ -60,6 +79,8 @@ impl Met {
             Edition::Second => assert!(self.of_three >= 10_000, "seed {seed}: {self:?}"),
         }
         self.ends.assert_often(1_000, &format!("seed {seed}"));
+        self.drivers.assert_often(500, &format!("seed {seed}"));
+        assert!(self.crowded_buses >= 100, "seed {seed}: {self:?}");
         for (room, [lent, too_short]) in Room::ALL.into_iter().zip(self.rooms) {
             let never = room.is_enough();
             assert!(lent >= 10_000, "seed {seed}, {room:?}: {self:?}");
@@ -88,6 +109,9 @@ fn generated(edition: Edition) {
         met.ends.add(answer, input.horizon, &records);
         let sheet = plain::read(edition, &input.sheet).ok();
         met.add(answer[0], room, has_change(&records), sheet.as_ref());
+        if let Some(sheet) = &sheet {
+            met.add_drivers(answer[0], input.horizon, sheet);
+        }
     }
     println!("{edition:?}, seed {seed}: {met:?}");
     met.assert_often(edition, seed);

@@ -20,8 +20,8 @@ fn run(sheet: &Sheet, horizon: u32, length: usize) -> Outcome {
 #[test]
 fn pending_4096_passes() {
     let sheet = toggled(&four_buffers());
-    let cells = plain::cells(&sheet, 10_000);
-    assert_eq!(plain::pending(&sheet, &cells).iter().max(), Some(&4_096));
+    let pending = plain::pending(&sheet, &plain::timelines(&sheet, 10_000));
+    assert_eq!(pending.iter().max(), Some(&4_096));
     assert_eq!(run(&sheet, 10_000, 60_000).answer, [0, 0, 1_024]);
 }
 

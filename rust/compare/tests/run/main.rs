@@ -11,6 +11,7 @@ mod generated;
 mod limits;
 mod reading;
 mod renumbered;
+mod several_drivers;
 mod start;
 mod three_inputs;
 mod vectors;

@@ -1,7 +1,7 @@
 //! Refusals of reading: a run gives those that checking gives, after 1 and before any other.
 
-use generate::limits::RECORD_BYTES;
-use generate::{by_hand, every, Generator, Size};
+use generate::limits::{LONGEST_SHEETS, RECORD_BYTES};
+use generate::{by_hand, every, room_for_all, Generator, Size};
 use plain::{worked_run, Edition};
 
 use crate::agreed::{agreed, proved, Outcome};
@@ -35,6 +35,7 @@ fn every_truncation() {
         let mut generator = Generator::of(edition, 2);
         let sizes = [Size::Tiny, Size::Small, Size::Medium, Size::Full];
         let mut sheets = sizes.map(|size| generator.valid(size)).to_vec();
+        sheets.push(generator.several_drivers(Size::Small));
         sheets.push(worked_run::sheet());
         for sheet in sheets {
             for cut in every::truncations(&sheet.encode(edition)) {
@@ -50,7 +51,12 @@ fn every_value_of_every_byte() {
     let horizon = worked_run::HORIZON;
     let length = RECORD_BYTES * 10;
     for edition in Edition::ALL {
-        for sheet in [worked_run::sheet(), by_hand::start(), by_hand::start_2()] {
+        for sheet in [
+            worked_run::sheet(),
+            by_hand::start(),
+            by_hand::start_2(),
+            by_hand::two_drivers(),
+        ] {
             for changed in every::single_bytes(&sheet.encode(edition)) {
                 agreed(edition, &changed, horizon, length, "one byte changed");
             }
@@ -71,17 +77,17 @@ fn no_bytes_and_no_room() {
 
 #[test]
 fn the_longest_sheets() {
-    for (edition, longest) in [(Edition::First, 8_449), (Edition::Second, 8_704)] {
+    for (edition, longest) in Edition::ALL.into_iter().zip(LONGEST_SHEETS) {
         let mut generator = Generator::of(edition, 3);
-        let mut lengths = Vec::new();
         for _ in 0..20 {
-            let sheet = generator.valid(Size::Full).encode(edition);
-            agreed(edition, &sheet, 40, 60_000, "every section full");
+            let sheet = generator.longest().encode(edition);
+            assert_eq!(sheet.len(), longest);
+            let bytes = room_for_all(edition, &sheet, 40);
+            let outcome = agreed(edition, &sheet, 40, bytes, "every section full");
+            assert!([0, 20].contains(&outcome.answer[0]), "{:?}", outcome.answer);
             let left_over = [&sheet[..], &[0]].concat();
-            let outcome = agreed(edition, &left_over, 40, 60_000, "one byte left over");
-            assert_eq!(outcome.answer, [17, sheet.len() as u32, 0]);
-            lengths.push(sheet.len());
+            let outcome = agreed(edition, &left_over, 40, bytes, "one byte left over");
+            assert_eq!(outcome.answer, [17, longest as u32, 0]);
         }
-        assert_eq!(lengths.into_iter().max(), Some(longest));
     }
 }

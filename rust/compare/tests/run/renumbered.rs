@@ -1,9 +1,12 @@
 //! Sheets with their nodes renumbered and their modules listed in any order.
 
 use compare::{count, seed};
+use generate::drivers::has_several_drivers;
 use generate::sheets::*;
 use generate::{room_for_all, Generator, Size};
-use plain::{read, renumbered, renumbered_listing, Edition, Module, Sheet, INPUT, LOW, UNKNOWN};
+use plain::{
+    read, renumbered, renumbered_listing, Edition, Module, Sheet, INPUT, LOW, NONE, UNKNOWN,
+};
 
 use crate::agreed::proved;
 
@@ -15,10 +18,12 @@ struct Met {
     crowded: u64,
     /// Listings that change when they are renumbered.
     moved: u64,
+    /// Those of them of sheets with several drivers a node.
+    moved_of_several_drivers: u64,
 }
 
 impl Met {
-    fn add(&mut self, number: u32, has_moved: bool) {
+    fn add(&mut self, number: u32, has_moved: bool, sheet: &Sheet) {
         match number {
             0 => self.finished += 1,
             19 => self.full_buffers += 1,
@@ -26,6 +31,7 @@ impl Met {
             other => panic!("an accepted sheet is refused with {other}"),
         }
         self.moved += u64::from(has_moved);
+        self.moved_of_several_drivers += u64::from(has_moved && has_several_drivers(sheet));
     }
 }
 
@@ -103,13 +109,15 @@ fn generated(edition: Edition) {
         let (sheet, horizon) = accepted(edition, &mut generator);
         let whence = format!("{edition:?}, seed {seed}, sheet {place}");
         let (number, has_moved) = run_alike(edition, &mut generator, &sheet, horizon, &whence);
-        met.add(number, has_moved);
+        met.add(number, has_moved, &sheet);
     }
     println!("{edition:?}, seed {seed}: {met:?}");
     assert!(met.finished >= 10_000, "seed {seed}: {met:?}");
     assert!(met.full_buffers >= 1_000, "seed {seed}: {met:?}");
     assert!(met.crowded >= 100, "seed {seed}: {met:?}");
     assert!(met.moved >= 10_000, "seed {seed}: {met:?}");
+    let of_several_drivers = met.moved_of_several_drivers;
+    assert!(of_several_drivers >= 3_000, "seed {seed}: {met:?}");
 }
 
 #[test]
@@ -122,16 +130,20 @@ fn generated_sheets_of_the_second_edition_renumbered() {
     generated(Edition::Second);
 }
 
-/// One sheet of each size, in many orders.
+/// One sheet of each size, and some with several drivers a node, in many orders.
 #[test]
 fn many_orders_of_one_sheet() {
     let seed = 6;
     for edition in Edition::ALL {
         let mut generator = Generator::of(edition, seed);
-        for size in [Size::Small, Size::Medium, Size::Large, Size::Full] {
-            let sheet = generator.valid(size);
+        let sizes = [Size::Small, Size::Medium, Size::Large, Size::Full];
+        let mut sheets = sizes.map(|size| generator.valid(size)).to_vec();
+        sheets.extend([Size::Small, Size::Medium].map(|size| generator.several_drivers(size)));
+        sheets.push(generator.longest());
+        for sheet in sheets {
             for place in 0..50 {
-                let whence = format!("{edition:?}, seed {seed}, {size:?}, order {place}");
+                let nodes = sheet.nodes.len();
+                let whence = format!("{edition:?}, seed {seed}, {nodes} nodes, order {place}");
                 run_alike(edition, &mut generator, &sheet, 60, &whence);
             }
         }
@@ -154,31 +166,35 @@ fn permutations(length: usize) -> Vec<Vec<usize>> {
     shorter.flat_map(with_last).collect()
 }
 
-/// Four modules over one input, every node watched: every numbering of the nodes with every listed order
-/// of the modules.
-fn every_renumbering(edition: Edition, modules: [Module; 4]) {
+/// Modules over one input, every node watched: every numbering of the nodes with every listed order of the
+/// modules.
+fn every_renumbering(edition: Edition, nodes: &[u8], modules: &[Module]) {
     let drive = [(0, 0, 0), (4, 0, 1), (8, 0, 0), (9, 0, 1)];
-    let nodes = [INPUT, LOW, LOW, UNKNOWN, LOW];
-    let sheet = sheet(&nodes, &modules, &drive, &[0, 1, 2, 3, 4]);
+    let watched: Vec<u8> = (0..).take(nodes.len()).collect();
+    let sheet = sheet(nodes, modules, &drive, &watched);
     let length = room_for_all(edition, &sheet.encode(edition), 20);
     let mut moved = 0;
-    for to in permutations(nodes.len()) {
-        let to: Vec<u8> = to.into_iter().map(|number| number as u8).collect();
-        for order in permutations(modules.len()) {
+    let [numberings, orders] = [nodes.len(), modules.len()].map(permutations);
+    for to in &numberings {
+        let to: Vec<u8> = to.iter().map(|&number| number as u8).collect();
+        for order in &orders {
             let renumbering = Renumbering {
                 edition,
                 sheet: &sheet,
                 to: to.clone(),
-                order,
+                order: order.clone(),
             };
             let (number, has_moved) = renumbering.run_alike(20, length, "every renumbering");
             assert_eq!(number, 0);
-            moved += u32::from(has_moved);
+            moved += usize::from(has_moved);
         }
     }
     // No two nodes have the same cells, so only one numbering leaves the listing as it is.
-    assert_eq!(moved, (120 - 1) * 24);
+    assert_eq!(moved, (numberings.len() - 1) * orders.len());
 }
+
+/// An input and four driven nodes.
+const FIVE_NODES: [u8; 5] = [INPUT, LOW, LOW, UNKNOWN, LOW];
 
 /// Gates and a memory without delay, one after the other, and a delayed gate back to the first.
 #[test]
@@ -190,7 +206,25 @@ fn every_renumbering_of_one_sheet() {
         gate(NAND, [3, 0], 4, 2),
     ];
     for edition in Edition::ALL {
-        every_renumbering(edition, modules);
+        every_renumbering(edition, &FIVE_NODES, &modules);
+    }
+}
+
+/// A bus that two inverters without delay drive in turn and a buffer with a delay as well. Two memories, equal
+/// records, catch it without delay, and the buffer reads what they hold.
+#[test]
+fn every_renumbering_of_a_bus() {
+    let caught = memory(0b0010, [1, 3], 2, 0);
+    let modules = [
+        gate(CLOCKED_INVERTER, [0, 0], 1, 0),
+        gate(CLOCKED_INVERTER, [0, 3], 1, 0),
+        gate(BUFFER, [2], 1, 2),
+        caught,
+        caught,
+        gate(INVERTER, [0], 3, 0),
+    ];
+    for edition in Edition::ALL {
+        every_renumbering(edition, &[INPUT, NONE, UNKNOWN, LOW], &modules);
     }
 }
 
@@ -203,5 +237,5 @@ fn every_renumbering_by_third_inputs() {
         gate(MULTIPLEXER, [0, 4, 2], 3, 0),
         gate(XOR_3, [0, 2, 3], 4, 2),
     ];
-    every_renumbering(Edition::Second, modules);
+    every_renumbering(Edition::Second, &FIVE_NODES, &modules);
 }

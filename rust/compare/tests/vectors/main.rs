@@ -1,11 +1,16 @@
 //! Calls and their whole outcome after a request of document 02, on which two independent readings
 //! of documents 01 and 02 agree: answers and every byte of the lent buffers, by the proved library and
 //! by the plain simulator.
+//!
+//! W-209 changes what the calls come to that gave 9: the 19 of them are left out of the files before it.
+//! These files stay, for W-209's own has no run that meets 20 and lacks other answers that they have, and
+//! they show that sheets with one driver a node are what they were.
 
 mod call;
 mod vector;
 
 use call::{PLAIN, PROVED};
+use generate::drivers::has_several_drivers;
 use plain::Edition;
 use vector::Vector;
 
@@ -20,6 +25,9 @@ const AFTER_207: &str = include_str!("after-207.txt");
 
 /// Those up to W-208: reports of pulses, and what the files before have.
 const AFTER_208: &str = include_str!("after-208.txt");
+
+/// Those up to W-209: sheets with several drivers a node, and what the files before have.
+const AFTER_209: &str = include_str!("after-209.txt");
 
 /// Asserts that both simulators give every vector's outcome, and that there are so many of each call in
 /// each edition.
@@ -46,7 +54,7 @@ fn after_204() {
     let calls = [
         (Edition::First, "check", 104),
         (Edition::First, "check_strict", 126),
-        (Edition::First, "run", 133),
+        (Edition::First, "run", 130),
     ];
     hold(AFTER_204, &calls);
 }
@@ -55,8 +63,8 @@ fn after_204() {
 fn after_205() {
     let calls = [
         (Edition::First, "check", 107),
-        (Edition::First, "check_strict", 131),
-        (Edition::First, "run", 126),
+        (Edition::First, "check_strict", 129),
+        (Edition::First, "run", 123),
         (Edition::Second, "check", 106),
         (Edition::Second, "check_strict", 128),
         (Edition::Second, "run", 130),
@@ -69,7 +77,7 @@ fn after_207() {
     let calls = [
         (Edition::First, "check", 28),
         (Edition::First, "check_strict", 35),
-        (Edition::First, "run", 44),
+        (Edition::First, "run", 43),
         (Edition::First, "convert", 156),
         (Edition::Second, "check", 28),
         (Edition::Second, "check_strict", 34),
@@ -82,16 +90,48 @@ fn after_207() {
 #[test]
 fn after_208() {
     let calls = [
-        (Edition::First, "check", 37),
-        (Edition::First, "check_strict", 43),
-        (Edition::First, "run", 42),
+        (Edition::First, "check", 35),
+        (Edition::First, "check_strict", 42),
+        (Edition::First, "run", 41),
         (Edition::First, "convert", 43),
-        (Edition::First, "pulses", 162),
-        (Edition::Second, "check", 34),
-        (Edition::Second, "check_strict", 41),
-        (Edition::Second, "run", 44),
+        (Edition::First, "pulses", 161),
+        (Edition::Second, "check", 32),
+        (Edition::Second, "check_strict", 40),
+        (Edition::Second, "run", 42),
         (Edition::Second, "convert", 40),
         (Edition::Second, "pulses", 164),
     ];
     hold(AFTER_208, &calls);
+}
+
+#[test]
+fn after_209() {
+    let calls = [
+        (Edition::First, "check", 128),
+        (Edition::First, "check_strict", 158),
+        (Edition::First, "run", 116),
+        (Edition::First, "convert", 176),
+        (Edition::First, "pulses", 177),
+        (Edition::Second, "check", 127),
+        (Edition::Second, "check_strict", 161),
+        (Edition::Second, "run", 112),
+        (Edition::Second, "convert", 168),
+        (Edition::Second, "pulses", 180),
+    ];
+    hold(AFTER_209, &calls);
+}
+
+/// No call gives 9 any more, and of the sheets that are accepted many have several drivers a node.
+#[test]
+fn several_drivers() {
+    let vectors = vector::all(AFTER_209);
+    let is_shared = |vector: &&Vector| {
+        let sheet = plain::read(vector.edition, &vector.sheet);
+        sheet.is_ok_and(|sheet| has_several_drivers(&sheet))
+    };
+    let shared = vectors.iter().filter(is_shared).count();
+    assert!(shared >= 300, "{shared} calls");
+    let files = [AFTER_204, AFTER_205, AFTER_207, AFTER_208, AFTER_209];
+    let answers = files.into_iter().flat_map(vector::all);
+    assert!(answers.into_iter().all(|v| v.expected.answer[0] != 9));
 }

@@ -8,8 +8,8 @@ use plain::{worked_run, Answer, HIGH, LOW};
 #[test]
 fn pending_4096_passes() {
     let sheet = toggled(&four_buffers());
-    let cells = plain::cells(&sheet, 10_000);
-    assert_eq!(plain::pending(&sheet, &cells).iter().max(), Some(&4_096));
+    let pending = plain::pending(&sheet, &plain::timelines(&sheet, 10_000));
+    assert_eq!(pending.iter().max(), Some(&4_096));
     let (answer, _) = run(&sheet.encode(Edition::First), 10_000, 60_000);
     assert_eq!(answer, Answer::Ran { count: 1_024 });
 }
@@ -53,8 +53,8 @@ fn zero_delay_leaves_nothing_pending() {
         .map(|output| gate(BUFFER, [0, 0], output, 0))
         .collect();
     let sheet = toggled(&buffers);
-    let cells = plain::cells(&sheet, 2_000);
-    assert_eq!(plain::pending(&sheet, &cells), [0; 2_000]);
+    let timelines = plain::timelines(&sheet, 2_000);
+    assert_eq!(plain::pending(&sheet, &timelines), [0; 2_000]);
 }
 
 #[test]

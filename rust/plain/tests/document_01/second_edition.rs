@@ -124,17 +124,18 @@ fn a_loop_by_the_third_input_alone() {
 fn the_longest_sheet() {
     let mut nodes = [LOW; 256];
     nodes[0] = INPUT;
-    let modules: Vec<Module> = (1..=u8::MAX)
+    let outputs = (1..=u8::MAX).chain([1]);
+    let modules: Vec<Module> = outputs
         .map(|output| gate(MULTIPLEXER, [0, 0, 0], output, 1))
         .collect();
     let drive: Vec<Change> = (0..1_024).map(|tick| (tick, 0, 0)).collect();
     let watched: Vec<u8> = (0..=u8::MAX).collect();
     let mut bytes = sheet(&nodes, &modules, &drive, &watched).encode(Edition::Second);
-    assert_eq!(bytes.len(), 8_704);
+    assert_eq!(bytes.len(), 8_712);
     let check = |bytes: &[u8]| plain::check_strict(Edition::Second, bytes).triple();
     assert_eq!(check(&bytes), [0, 0, 0]);
     bytes.push(0);
-    assert_eq!(check(&bytes), [17, 8_704, 0]);
+    assert_eq!(check(&bytes), [17, 8_712, 0]);
 }
 
 #[test]
