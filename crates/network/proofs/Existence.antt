@@ -20,10 +20,10 @@ use Rattle.sheet.proofs.Chosen.{chosen-same, chosen-mem}
 use Rattle.sheet.proofs.Tests.{fails}
 use Rattle.network.specs.Order.{ValidOrder}
 use Rattle.network.specs.Satisfied.{Satisfied}
-use Rattle.network.specs.Timeline.{driveCell, contribution, contributions, fromDrivers}
+use Rattle.network.specs.Timeline.{Cells, driveCell, contribution, contributions, fromDrivers, drivenCell}
 use Rattle.network.specs.Working.{Contributions, unworked, standing, work, workAll, contributed, worked}
 use Rattle.format.proofs.Condition.{tells-driven, tells-input}
-use Rattle.network.proofs.Equation.{equation-local, reads-no-later}
+use Rattle.network.proofs.Equation.{equation-local, causality, reads-no-later}
 use Rattle.network.proofs.Ordered.{Ordered, all-worked, next, every-module, ordered}
 use Rattle.network.proofs.Passing.{passes}
 
@@ -35,6 +35,12 @@ module _ (S : Sheet) where
   -- what a node's drivers give
   pub from-drivers-same : (f g : ℕ → ℕ) (v : ℕ) → ((m : ℕ) → m < moduleCount S → outputOf S m ≡ v → f m ≡ g m) → fromDrivers S f v ≡ fromDrivers S g v
   from-drivers-same f g v same = chosen-same (moduleCount S) _ _ f g (λ m h. refl) (λ m h e. same m h (eqb-true (outputOf S m) v e))
+
+  -- Causality of a node: its cell w, if w is at most t + d for the delay d of each of its drivers, depends on cells at or before t alone.
+  pub node-causality : (c c′ : Cells) (v t w : ℕ) → ((m : ℕ) → m < moduleCount S → outputOf S m ≡ v → w ≤ t + moduleOf S m .delay) → ((u x : ℕ) → u ≤ t → c u x ≡ c′ u x)
+      → drivenCell S c v w ≡ drivenCell S c′ v w
+  node-causality c c′ v t w soon same =
+      ap joined (from-drivers-same (contributions S c w) (contributions S c′ w) v (λ m h e. causality S c c′ m t w (soon m h e) (λ u x l used. same u x l)))
 
   -- cells as contributions stand
   module _ (k : Contributions) (t v : ℕ) where
