@@ -113,7 +113,7 @@ enum timing_value {
 #define TIMING_GREATEST_WIDTH 10000
 /* the changes that may be pending after a tick: */
 #define TIMING_PENDING_LIMIT 4096
-/* bytes of the longest accepted sheet of the first edition, every section of which is full, and of the second: */
+/* bytes of the longest accepted sheet, whose sections are all full, in the first edition and in the second: */
 #define TIMING_LONGEST_SHEET 8456
 #define TIMING_LONGEST_SHEET_2 8712
 /* bytes that no sentence passes: */
