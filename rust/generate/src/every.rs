@@ -81,6 +81,16 @@ pub fn gates(edition: Edition, delay: u16) -> Sheet {
 /// What two contributions come to, written out: a row for each of the one, a column for each of the other.
 pub const JOINED: [[u8; 4]; 4] = [[0, 2, 2, 0], [2, 1, 2, 1], [2, 2, 2, 2], [0, 1, 2, 3]];
 
+/// What contributions come to together, by [`JOINED`] one after the other.
+pub fn joined<const N: usize>(contributions: [u8; N]) -> u8 {
+    let join = |one, other| JOINED[usize::from(one)][usize::from(other)];
+    contributions.into_iter().fold(NONE, join)
+}
+
+/// Delays of two drivers, and of three: none, equal ones, either one longer.
+pub const PAIRS: [[u16; 2]; 5] = [[0, 0], [0, 1], [1, 0], [3, 3], [5, 2]];
+pub const TRIPLES: [[u16; 3]; 4] = [[0, 0, 0], [2, 0, 1], [3, 3, 3], [1, 2, 4]];
+
 /// A node that each input drives over a memory that catches everything, with these delays. The inputs go
 /// through every pair, triple and so on of values, and each stands for so long that all drivers have it at
 /// its last tick.
@@ -102,13 +112,13 @@ pub fn joins<const N: usize>(delays: [u16; N]) -> Joins<N> {
             .map(move |(input, value)| (place * lasts, input, value))
     };
     let drive: Vec<Change> = (0..combinations).flat_map(events).collect();
-    let joined = byte(N);
-    let driver = |(input, delay)| memory(ANY_VALUE, [input; 2], joined, delay);
+    let node = byte(N);
+    let driver = |(input, delay)| memory(ANY_VALUE, [input; 2], node, delay);
     let modules: Vec<_> = (0..).zip(delays).map(driver).collect();
     let mut nodes = vec![INPUT; N];
     nodes.push(NONE);
     Joins {
-        sheet: sheet(&nodes, &modules, &drive, &[joined]),
+        sheet: sheet(&nodes, &modules, &drive, &[node]),
         horizon: combinations * lasts,
         values: (0..combinations)
             .map(|place| ((place + 1) * lasts - 1, values(place)))

@@ -1,6 +1,7 @@
 //! A run by the proved library and one by the plain simulator, over buffers that are alike.
 
 use compare::{hex, Lent};
+use generate::ends_by_hand::Case;
 use generate::limits::RECORD_BYTES;
 use generate::room_for_all;
 use generate::sheets::{records, Record};
@@ -81,6 +82,16 @@ pub fn listed(sheet: &Sheet, horizon: u32, whence: &str) -> Vec<Record> {
     let [first, second] = Edition::ALL.map(|edition| listed_in(edition, sheet, horizon, whence));
     assert_eq!(first, second, "{whence}");
     first
+}
+
+/// A run that is worked out by hand, which every edition must answer and list so.
+pub fn listed_by_hand(case: &Case) {
+    for edition in Edition::ALL {
+        let sheet = case.sheet.encode(edition);
+        let outcome = agreed(edition, &sheet, case.horizon, case.bytes, case.name);
+        assert_eq!(outcome.answer, case.answer, "{}", case.name);
+        assert_eq!(records(&outcome.listing), case.records, "{}", case.name);
+    }
 }
 
 fn first_difference(one: &[u8], other: &[u8]) -> Option<usize> {

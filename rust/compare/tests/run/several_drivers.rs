@@ -1,26 +1,18 @@
 //! Document 02, W-209, by the library: runs of sheets with several drivers a node.
 
 use generate::drivers::has_several_drivers;
-use generate::every::{joins, Joins, JOINED};
+use generate::every::{joined, joins, Joins, PAIRS, TRIPLES};
 use generate::limits::RECORD_BYTES;
 use generate::sheets::*;
 use generate::{drivers_by_hand, room_for_all, Generator, Size};
 use plain::{renumbered, Edition, Module, Sheet, HIGH, INPUT, LOW, NONE, UNKNOWN};
 
-use crate::agreed::{agreed, listed, proved, Outcome};
+use crate::agreed::{agreed, listed, listed_by_hand, proved};
 
 #[test]
 fn worked_out_by_hand() {
     let cases = drivers_by_hand::cases();
-    for case in &cases {
-        for edition in Edition::ALL {
-            let sheet = case.sheet.encode(edition);
-            let Outcome { answer, listing } =
-                agreed(edition, &sheet, case.horizon, case.bytes, case.name);
-            assert_eq!(answer, case.answer, "{}", case.name);
-            assert_eq!(records(&listing), case.records, "{}", case.name);
-        }
-    }
+    cases.iter().for_each(listed_by_hand);
     assert!(cases.len() >= 20, "{} cases", cases.len());
 }
 
@@ -40,21 +32,15 @@ fn every_value<const N: usize>(delays: [u16; N]) {
     let records = listed(&sheet, horizon, "every value");
     assert_eq!(values.len(), 4_usize.pow(N as u32));
     for (tick, said) in values {
-        let join = |one, other| JOINED[usize::from(one)][usize::from(other)];
-        let expected = said.into_iter().reduce(join);
         let value = value_at(&records, tick);
-        assert_eq!(Some(value), expected, "{said:?} after {delays:?}");
+        assert_eq!(value, joined(said), "{said:?} after {delays:?}");
     }
 }
 
 #[test]
 fn every_pair_and_triple_of_values() {
-    for delays in [[0, 0], [0, 1], [1, 0], [3, 3], [5, 2]] {
-        every_value(delays);
-    }
-    for delays in [[0, 0, 0], [2, 0, 1], [3, 3, 3], [1, 2, 4]] {
-        every_value(delays);
-    }
+    PAIRS.into_iter().for_each(every_value);
+    TRIPLES.into_iter().for_each(every_value);
     every_value([0, 0, 1, 2]);
 }
 

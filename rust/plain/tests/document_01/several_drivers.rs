@@ -2,7 +2,7 @@
 
 use crate::support::*;
 use generate::drivers_by_hand;
-use generate::every::{joins, Joins, JOINED};
+use generate::every::{joined, joins, Joins, PAIRS, TRIPLES};
 use plain::{renumbered, timelines, Answer, Timelines, HIGH, INPUT, LOW, NONE};
 
 #[test]
@@ -26,21 +26,15 @@ fn every_value<const N: usize>(delays: [u16; N]) {
     } = joins(delays);
     let cells = plain::cells(&sheet, horizon);
     for (tick, said) in values {
-        let join = |one, other| JOINED[usize::from(one)][usize::from(other)];
-        let expected = said.into_iter().reduce(join);
         let cell = cells[N][tick as usize];
-        assert_eq!(Some(cell), expected, "{said:?} after {delays:?}");
+        assert_eq!(cell, joined(said), "{said:?} after {delays:?}");
     }
 }
 
 #[test]
 fn every_pair_and_triple_of_values() {
-    for delays in [[0, 0], [0, 1], [1, 0], [3, 3], [5, 2]] {
-        every_value(delays);
-    }
-    for delays in [[0, 0, 0], [2, 0, 1], [3, 3, 3], [1, 2, 4]] {
-        every_value(delays);
-    }
+    PAIRS.into_iter().for_each(every_value);
+    TRIPLES.into_iter().for_each(every_value);
 }
 
 /// A buffer and an inverter of an input, onto one node with delay 3.
