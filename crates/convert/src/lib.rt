@@ -1,27 +1,24 @@
 // A sheet of one edition in the other: each module record gains a third input of 0 or loses it, and all other bytes stay in their order.
+use format::length_answer;
 use lent::put;
 use lent::put_all;
 use sheet::Answer;
 use sheet::COUNT_SIZE;
 use sheet::Edition;
-ghost use mathlib.Core.List.{List};
 ghost use mathlib.Core.Path.{_≡_};
-ghost use Prim.Native.Nat.{ℕ, _+_, _-_, _*_, _<_, _≤_};
+ghost use Prim.Native.Nat.{_+_, _-_, _*_, _≤_};
 ghost use lib.ListN.{length};
 ghost use Rattle.sheet.specs.Enumerate.{each};
 ghost use Rattle.sheet.specs.Layout.{modulesCounted};
 ghost use Rattle.sheet.specs.Outcome.{finished, outcomeOf};
 ghost use Rattle.sheet.specs.Refusal.{checked, first};
 ghost use Rattle.format.specs.Accepted.{Known};
-ghost use Rattle.format.specs.Made.{writtenAnswer, sheetMade};
 ghost use Rattle.lent.specs.Lent.{Prints};
 ghost use Rattle.convert.specs.Converted.{part, thirdIn, convertedRecord, recordsPlace, converted};
 ghost use Rattle.convert.specs.Conversion.{kindRows, Converts};
 
-// The refusals of a kind that the first edition lacks, and of an output that is shorter than the sheet.
+// The refusal of a kind that the first edition lacks.
 const KIND_NOT_IN_FIRST: u32 = 22;
-
-const OUTPUT_SHORT: u32 = 23;
 
 // The bytes of a record before its third input, and of its delay.
 const BEFORE_THIRD: usize = 5;
@@ -145,17 +142,6 @@ fn length_needed(from: Edition, to: Edition, sheet: &[u8], n: u16) -> usize
 {
     let others = sheet.len() - (from.size as usize) * (n as usize);
     others + (to.size as usize) * (n as usize)
-}
-
-// The answer to writing a sheet of so many bytes to an output of so many.
-fn length_answer(needed: usize, bytes: usize) -> Answer
-    requires { ⌜ needed < 4294967296 ⌝ }
-    ensures { λ r. ⌜ ((sheet : List ℕ) → length sheet ≡ needed → outcomeOf r ≡ writtenAnswer (sheetMade sheet) bytes) ⌝ }
-{
-    if bytes < needed {
-        return Answer::Refused(OUTPUT_SHORT, needed as u32, 0);
-    }
-    Answer::Ran(needed as u32)
 }
 
 // Converts a sheet that its own edition accepts: refusal 22 or 23, or a finished call with the count of bytes written.

@@ -43,7 +43,7 @@ other-than-4 : {a : ℕ} → a ≤ inputByte → (a ≡ inputByte → ⊥) → a
 other-than-4 h d = omega arith
 
 -- what rises from each number to the next rises from each to every later one
-rises : (f : ℕ → ℕ) (n : ℕ) → ((k : ℕ) → suc k < n → f k < f (suc k)) → (a b : ℕ) → a < b → b < n → f a < f b
+pub rises : (f : ℕ → ℕ) (n : ℕ) → ((k : ℕ) → suc k < n → f k < f (suc k)) → (a b : ℕ) → a < b → b < n → f a < f b
 rises f n step a zero h l = omega arith
 rises f n step a (suc b) h l = go (rises f n step a b) (ℕ-discrete a b)
   where

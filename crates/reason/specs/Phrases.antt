@@ -27,7 +27,7 @@ infix 20 _by_
 abbrev pub _by_ : String → Sort → Phrase
 wrong by sort = record { wrong = wrong; sort = sort }
 
--- refusals 1 to 25, in order
+-- refusals 1 to 26, in order
 abbrev pub phrases : List Phrase
 phrases =
     ("the horizon is not from 1 to 1,000,000 ticks" by Bare)
@@ -55,6 +55,7 @@ phrases =
     ∷ ("the output buffer is shorter than the sheet to be written" by Length)
     ∷ ("the pulse width is not from 1 to 10,000 ticks" by Bare)
     ∷ ("the report buffer has no room for all pulses" by Pulses)
+    ∷ ("the inputs and the events to draw are more than 1,024 together, or there is no input to draw events for" by Bare)
     ∷ []
 
 -- how a number that no row has is said, before the number itself

@@ -79,6 +79,12 @@ fn put_made_reason(text: &mut [u8], at: usize, number: u32) -> usize
             b"the report buffer has no room for all pulses",
             Sort::Pulses,
         ),
+        26 => put_phrase(
+            text,
+            at,
+            b"the inputs and the events to draw are more than 1,024 together, or there is no input to draw events for",
+            Sort::Bare,
+        ),
         _ => put_unlisted(text, at, number),
     }
 }

@@ -23,6 +23,7 @@ examples =
     ∷ (refused 23 32 0 reads "refused: the output buffer is shorter than the sheet to be written, length needed 32; records written: 0")
     ∷ (refused 24 0 0 reads "refused: the pulse width is not from 1 to 10,000 ticks, place 0; records written: 0")
     ∷ (refused 25 2 6 reads "refused: the report buffer has no room for all pulses, pulses to report 2; records written: 6")
+    ∷ (refused 26 0 0 reads "refused: the inputs and the events to draw are more than 1,024 together, or there is no input to draw events for, place 0; records written: 0")
     ∷ (refused 0 7 6 reads "refused: the reason is not listed, number 0, place 7; records written: 6")
     ∷ (refused 77 4294967295 0 reads "refused: the reason is not listed, number 77, place 4294967295; records written: 0")
     ∷ []

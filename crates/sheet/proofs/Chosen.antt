@@ -5,7 +5,9 @@ use mathlib.Core.Path.{_≡_, refl, sym, ap, ap₂, _∙_, subst}
 use native.Mathlib.Decide.{ℕ-discrete}
 use native.Mathlib.Nat.{not-suc-le-zero, le-step, lt-suc-self}
 use native.Mathlib.Omega.{arith}
-use Prim.Native.Nat.{ℕ, zero, suc, _<_}
+use Prim.Native.Nat.{ℕ, zero, suc, _<_, _≤_, zero-le}
+use lib.Dec.{lit≤}
+use lib.ListN.{length, length-append}
 use Rattle.level.specs.Choice.{if_then_else_}
 use Rattle.sheet.specs.Enumerate.{each, chosen}
 use Rattle.sheet.proofs.Each.{each-mem, each-same}
@@ -28,6 +30,16 @@ module _ {ℓ} {A : Type ℓ} where
 
   pub chosen-mem : (n : ℕ) (p : ℕ → Bool) (f : ℕ → A) (k : ℕ) → k < n → p k ≡ true → List·Memᴰ (f k) (chosen n p f)
   chosen-mem n p f k h e = each-mem n (λ k. if p k then f k ∷ [] else []) .1 (k, h, rw e (List·Memᴰ·head refl))
+
+  -- at most one for each number
+  pub chosen-few : (n : ℕ) (p : ℕ → Bool) (f : ℕ → A) → length (chosen n p f) ≤ n
+  unfolding each
+  chosen-few zero p f = zero-le
+  chosen-few (suc n) p f = rw (length-append (chosen n p f) (if p n then f n ∷ [] else [])) (omega (arith, chosen-few n p f, one (p n)))
+    where
+      one : (b : Bool) → length (if b then f n ∷ [] else []) ≤ 1
+      one true = lit≤ tt
+      one false = zero-le
 
   pub chosen-none : (n : ℕ) (p : ℕ → Bool) (f : ℕ → A) → ((k : ℕ) → k < n → p k ≡ false) → chosen n p f ≡ []
   unfolding each

@@ -4,7 +4,7 @@ use lib.Dec.{ltb, leb, eqb}
 use mathlib.Core.Bool.{Bool, true, false, _&&_, _||_, not, true≢false, false≢true}
 use mathlib.Core.List.{List, [], _∷_, List·Memᴰ, List·Memᴰ·head, List·Memᴰ·tail, List·Memᴰ·not-nil, List·Memᴰ·cases-cons, Memᴰ·cast}
 use mathlib.Core.Logic.{_↔_, _⊎_, inl, inr}
-use mathlib.Core.Path.{_≡_, refl, subst}
+use mathlib.Core.Path.{_≡_, refl, sym, subst}
 use native.Mathlib.Nat.{not-suc-le-zero}
 use native.Mathlib.Omega.{arith}
 use native.Mathlib.Decide.{ℕ-discrete}
@@ -28,6 +28,12 @@ decided false t = no (λ h. false≢true (t .1 h))
 -- the same test of an equivalent proposition
 pub tells-as : {b : Bool} {P Q : Type 0} → Tells b P → P ↔ Q → Tells b Q
 tells-as t e = (λ h. e .0 (t .0 h), λ q. t .1 (e .1 q))
+
+-- two tests of one proposition are the same
+pub tells-alike : (b c : Bool) {P : Type 0} → Tells b P → Tells c P → b ≡ c
+tells-alike true c t u = sym (u .1 (t .0 refl))
+tells-alike false true t u = absurd (false≢true (t .1 (u .0 refl)))
+tells-alike false false t u = refl
 
 pub tells-lt : (a b : ℕ) → Tells (ltb a b) (a < b)
 tells-lt a b = (ltb-true a b, lt-ltb a b)

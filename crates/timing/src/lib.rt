@@ -11,6 +11,7 @@ ghost use Rattle.format.specs.Accepted.{Known};
 ghost use Rattle.network.specs.Run.{RunLeaves};
 ghost use Rattle.convert.specs.Conversion.{Converts};
 ghost use Rattle.pulses.specs.Reporting.{Reports};
+ghost use Rattle.draw.specs.Loading.{Loads};
 
 // Checks a sheet of an edition, strictly or not: the refusals of its bytes, and then its zero-delay loops.
 fn check_in(strict: bool, edition: Edition, bytes: &[u8]) -> Answer
@@ -169,4 +170,31 @@ pub fn pulses_2(
         listing,
         report,
     )
+}
+
+// Fills the drive of a sheet of an edition from a seed: the check's refusals, and then the load's.
+fn load_in(edition: Edition, sheet: &[u8], seed: u32, n: u32, output: &mut [u8]) -> Answer
+    requires { ⌜ Known edition ⌝ }
+    ensures { λ r. ⌜ Loads edition (now (sheet .entry)) seed n (now (output .entry)) (outcomeOf r) (now (output .exit)) ⌝ }
+{
+    let checked = check_in(false, edition, sheet);
+    let Answer::Ran(_) = checked else {
+        return checked;
+    };
+    draw::load(edition, sheet, seed, n, output)
+}
+
+// Fills the drive of a sheet from a seed, replacing its events: one at tick 0 for each input, and then n more. Refusals 2 to 14, 16 to 18, 26 and
+// 23, or a finished call with the count of bytes written. The loaded sheet stands first in the output; bytes past it are as they were. A
+// refusal writes nothing.
+pub fn load(sheet: &[u8], seed: u32, n: u32, output: &mut [u8]) -> Answer
+    ensures { λ r. ⌜ Loads firstEdition (now (sheet .entry)) seed n (now (output .entry)) (outcomeOf r) (now (output .exit)) ⌝ }
+{
+    load_in(sheet::first_edition(), sheet, seed, n, output)
+}
+
+pub fn load_2(sheet: &[u8], seed: u32, n: u32, output: &mut [u8]) -> Answer
+    ensures { λ r. ⌜ Loads secondEdition (now (sheet .entry)) seed n (now (output .entry)) (outcomeOf r) (now (output .exit)) ⌝ }
+{
+    load_in(sheet::second_edition(), sheet, seed, n, output)
 }

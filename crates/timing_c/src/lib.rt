@@ -8,6 +8,7 @@ ghost use Rattle.sheet.specs.Refusal.{checked, checkedStrictly};
 ghost use Rattle.network.specs.Run.{RunLeaves};
 ghost use Rattle.convert.specs.Conversion.{Converts};
 ghost use Rattle.pulses.specs.Reporting.{Reports};
+ghost use Rattle.draw.specs.Loading.{Loads};
 ghost use Rattle.sentence.specs.Describing.{Describes};
 
 // An answer's three numbers: number (0 for a finished call), place, count.
@@ -128,6 +129,35 @@ pub extern "C" fn timing_pulses_2(
         o (now (listing .exit)) (now (report .exit))) ⌝ }
 {
     *answer = numbers_of(timing::pulses_2(sheet, horizon, width, listing, report));
+}
+
+// The three numbers are those of the answer to the load.
+#[no_mangle]
+pub extern "C" fn timing_load(
+    sheet: &[u8],
+    seed: u32,
+    n: u32,
+    output: &mut [u8],
+    answer: &mut [u32; 3],
+)
+    ensures { λ _. ⌜ ((o : Outcome) × (now (answer .exit) ≡ numbers o)
+        × Loads firstEdition (now (sheet .entry)) seed n (now (output .entry)) o (now (output .exit))) ⌝ }
+{
+    *answer = numbers_of(timing::load(sheet, seed, n, output));
+}
+
+#[no_mangle]
+pub extern "C" fn timing_load_2(
+    sheet: &[u8],
+    seed: u32,
+    n: u32,
+    output: &mut [u8],
+    answer: &mut [u32; 3],
+)
+    ensures { λ _. ⌜ ((o : Outcome) × (now (answer .exit) ≡ numbers o)
+        × Loads secondEdition (now (sheet .entry)) seed n (now (output .entry)) o (now (output .exit))) ⌝ }
+{
+    *answer = numbers_of(timing::load_2(sheet, seed, n, output));
 }
 
 // Describes the answer that three numbers stand for.

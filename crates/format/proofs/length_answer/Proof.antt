@@ -1,9 +1,9 @@
--- `convert::length_answer` meets its contract: the output is too short, or it takes the sheet. Assumes nothing.
+-- `format::length_answer` meets its contract: the output is too short, or it takes the sheet. Assumes nothing.
 use borrow.Author.Needs.{needs}
 use borrow.Author.Tests.{lt-ltb, le-ltb}
 use lib.ListN.{length}
-use Rattle.convert.proofs.length_answer.Statement.{statement}
-use Rattle.convert.proofs.length_answer.Tie as tie
+use Rattle.format.proofs.length_answer.Statement.{statement}
+use Rattle.format.proofs.length_answer.Tie as tie
 
 returns : tie.Need-returns
 returns c sheet e = rw (lt-ltb (c .before .args .bytes) (length sheet) (rw e (c .if1 .taken)), e)
