@@ -1,4 +1,4 @@
-//! Sheets to be converted to the other edition, and outputs for them.
+//! Sheets to be converted to the other edition.
 //!
 //! Most sheets of the second edition have many modules of kinds that the first lacks, so they are mixed
 //! with sheets that have none, or one or two, which may be the first in the list, the last or any.
@@ -8,28 +8,6 @@ use std::mem;
 use plain::{Edition, Module, Sheet};
 
 use crate::{Generator, Size};
-
-/// The length of an output, seen from the length that is needed.
-#[derive(Debug, Clone, Copy, PartialEq, Eq)]
-pub enum Output {
-    /// No byte at all.
-    Empty,
-    ByteShort,
-    Exact,
-    ByteLong,
-    /// Anything up to twice the length that is needed.
-    Any,
-}
-
-impl Output {
-    pub const ALL: [Output; 5] = [
-        Output::Empty,
-        Output::ByteShort,
-        Output::Exact,
-        Output::ByteLong,
-        Output::Any,
-    ];
-}
 
 impl Generator {
     /// The bytes of a sheet, good or bad, to be converted to the other edition.
@@ -93,16 +71,5 @@ impl Generator {
             *input = read.unwrap_or(0);
         }
         sheet.modules[place] = wide;
-    }
-
-    /// The bytes of such an output where so many are needed.
-    pub fn output_bytes(&mut self, output: Output, needed: usize) -> usize {
-        match output {
-            Output::Empty => 0,
-            Output::ByteShort => needed.saturating_sub(1),
-            Output::Exact => needed,
-            Output::ByteLong => needed + 1,
-            Output::Any => self.random.between(0, 2 * needed),
-        }
     }
 }

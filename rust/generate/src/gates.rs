@@ -29,7 +29,7 @@ impl Generator {
     }
 
     /// A gate of two inputs, in the second edition of three, over any of the nodes.
-    fn widest_gate(&mut self, output: u8, nodes: usize, longest_delay: usize) -> Module {
+    pub(crate) fn widest_gate(&mut self, output: u8, nodes: usize, longest_delay: usize) -> Module {
         let kind = self.widest_kind();
         let mut module = gate(kind, [], output, 0);
         for input in module.used_inputs_mut() {

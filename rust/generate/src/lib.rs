@@ -2,9 +2,9 @@
 //!
 //! Every stream of sheets is determined by its seed, so a failing one can be made again. The
 //! families are named and stand in files of their own; [`Generator::any`] mixes them,
-//! [`Generator::run_input`] mixes what runs are given, and [`Generator::pulses_input`] what reports of
-//! pulses are. Sheets with several drivers a node come from a stream beside the others', so that those
-//! are what they were before there were any.
+//! [`Generator::run_input`] mixes what runs are given, [`Generator::pulses_input`] what reports of
+//! pulses are, and [`Generator::load_input`] what loads are. Sheets with several drivers a node come
+//! from a stream beside the others', so that those are what they were before there were any.
 
 #![forbid(unsafe_code)]
 
@@ -16,6 +16,7 @@ mod bytes;
 mod conversion;
 pub mod conversions_by_hand;
 mod crowded;
+pub mod draws_by_hand;
 pub mod drivers;
 pub mod drivers_by_hand;
 pub mod ends;
@@ -25,9 +26,13 @@ mod fault;
 mod gates;
 mod kinds;
 pub mod limits;
+mod load_input;
+pub mod loads;
+pub mod loads_by_hand;
 mod met;
 mod mixture;
 mod more_drivers;
+mod output;
 pub mod pulses;
 pub mod pulses_by_hand;
 mod pulses_input;
@@ -37,14 +42,16 @@ mod room;
 mod run;
 mod run_mixture;
 pub mod runs_by_hand;
+mod same_inputs;
 pub mod shared;
 pub mod sheets;
 mod start;
 mod valid;
 mod zero_delay;
 
-pub use conversion::Output;
+pub use load_input::LoadInput;
 pub use met::assert_met;
+pub use output::Output;
 pub use pulses_input::PulsesInput;
 pub use room::{room_for_all, Room};
 pub use run_mixture::RunInput;

@@ -1,4 +1,4 @@
-//! The limits that generated runs and reports meet, the sizes of their records, and how many are printed.
+//! The limits that generated sheets, runs and reports meet, the sizes of records, and how many are printed.
 
 /// The last horizon that runs.
 pub const LAST_HORIZON: u32 = 1_000_000;
@@ -17,6 +17,9 @@ pub const MOST_PENDING: usize = 4_096;
 
 /// The bytes of the longest sheets, of the first edition and of the second.
 pub const LONGEST_SHEETS: [usize; 2] = [8_456, 8_712];
+
+/// The bytes of an event in a drive.
+pub const EVENT_BYTES: usize = 6;
 
 /// The bytes of a record in a listing.
 pub const RECORD_BYTES: usize = 10;

@@ -41,7 +41,6 @@ impl Generator {
 
 /// How each input of a sheet begins.
 pub fn starts_of(sheet: &Sheet) -> Vec<Start> {
-    let inputs = sheet.node_numbers().filter(|&node| sheet.has_input(node));
     let start = |node: u8| {
         let first = sheet.drive.iter().find(|event| event.node == node);
         match first.map(|event| event.tick) {
@@ -50,5 +49,5 @@ pub fn starts_of(sheet: &Sheet) -> Vec<Start> {
             None => Start::Never,
         }
     };
-    inputs.map(start).collect()
+    sheet.inputs().map(start).collect()
 }

@@ -57,14 +57,24 @@ impl Generator {
         let nodes = self.node_count(size);
         let modules = self.module_count(size, nodes);
         let style = style(self, size);
+        self.valid_of(size, nodes, modules, &style)
+    }
+
+    /// A sheet that is accepted, with so many inputs and so many driven nodes, and else as a small one.
+    pub(crate) fn valid_with_inputs(&mut self, inputs: usize, driven: usize) -> Sheet {
+        let style = self.style(Size::Small);
+        self.valid_of(Size::Small, inputs + driven, driven, &style)
+    }
+
+    fn valid_of(&mut self, size: Size, nodes: usize, modules: usize, style: &Style) -> Sheet {
         // The nodes in some order, the driven ones first. A zero-delay module takes its inputs
         // from before its output or from nodes that no zero-delay module drives.
         let order = self.permutation(nodes);
         let (outputs, inputs) = order.split_at(modules);
         let sheet = Sheet {
-            nodes: self.node_bytes(nodes, inputs, &style),
-            modules: self.modules(&order, outputs.len(), &style),
-            drive: self.drive(size, inputs, &style),
+            nodes: self.node_bytes(nodes, inputs, style),
+            modules: self.modules(&order, outputs.len(), style),
+            drive: self.drive(size, inputs, style),
             watched: self.watched(size, nodes),
         };
         self.reordered(&sheet)

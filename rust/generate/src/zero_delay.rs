@@ -211,7 +211,7 @@ impl Generator {
     }
 
     /// An event for each input that begins.
-    fn events_of_inputs(&mut self, sheet: &Sheet) -> Vec<Event> {
+    pub(crate) fn events_of_inputs(&mut self, sheet: &Sheet) -> Vec<Event> {
         let starts = self.starts();
         let numbered = sheet.node_numbers().zip(&sheet.nodes);
         let inputs = numbered.filter(|(_, &byte)| byte == INPUT);

@@ -143,9 +143,9 @@ fn event_refusal(event: &Event, sheet: &Sheet) -> Option<u32> {
 
 /// Refusal 15: every input has an event at tick 0.
 fn every_input_begins(sheet: &Sheet) -> Result<(), Answer> {
-    for node in sheet.node_numbers() {
+    for node in sheet.inputs() {
         let starts = sheet.drive.iter().any(|event| event.key() == (0, node));
-        if sheet.has_input(node) && !starts {
+        if !starts {
             return Err(Answer::unread(15, usize::from(node)));
         }
     }

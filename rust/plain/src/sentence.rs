@@ -16,8 +16,8 @@ enum Sort {
 
 use Sort::*;
 
-/// What is wrong, and what the place counts, of refusals 1 to 25.
-const PHRASES: [(&str, Sort); 25] = [
+/// What is wrong, and what the place counts, of refusals 1 to 26.
+const PHRASES: [(&str, Sort); 26] = [
     ("the horizon is not from 1 to 1,000,000 ticks", Bare),
     ("the sheet's bytes end inside a count or a record", Byte),
     (
@@ -78,6 +78,10 @@ const PHRASES: [(&str, Sort); 25] = [
     ),
     ("the pulse width is not from 1 to 10,000 ticks", Bare),
     ("the report buffer has no room for all pulses", Pulses),
+    (
+        "more than 1,024 events with those drawn, or events to draw and no input",
+        Bare,
+    ),
 ];
 
 /// The phrase of a refusal's number, if it has one.

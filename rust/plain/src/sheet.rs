@@ -76,6 +76,11 @@ impl Sheet {
     pub fn has_input(&self, node: u8) -> bool {
         self.has_node(node) && !self.is_driven(node)
     }
+
+    /// The inputs of the sheet, rising.
+    pub fn inputs(&self) -> impl Iterator<Item = u8> + '_ {
+        self.node_numbers().filter(|&node| self.has_input(node))
+    }
 }
 
 impl Module {

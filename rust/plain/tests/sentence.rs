@@ -57,8 +57,13 @@ fn sentences() {
              written: 30",
         ),
         (
-            refused(26, 1, 2),
-            "refused: the reason is not listed, number 26, place 1; records written: 2",
+            refused(26, 0, 0),
+            "refused: more than 1,024 events with those drawn, or events to draw and no input, place \
+             0; records written: 0",
+        ),
+        (
+            refused(27, 1, 2),
+            "refused: the reason is not listed, number 27, place 1; records written: 2",
         ),
         (
             refused(4_294_967_295, 5, 6),
@@ -85,7 +90,7 @@ fn a_refusal_of_number_0() {
 #[test]
 fn no_phrase_begins_another() {
     let phrases: Vec<&str> = (0..100).filter_map(phrase).collect();
-    assert_eq!(phrases.len(), 25);
+    assert_eq!(phrases.len(), 26);
     for (i, one) in phrases.iter().enumerate() {
         for (j, other) in phrases.iter().enumerate() {
             assert!(i == j || !other.starts_with(one), "{one}; {other}");

@@ -7,6 +7,7 @@ mod examples;
 mod faults;
 mod gates;
 mod joining;
+mod load;
 mod memory;
 mod program;
 mod pulses;
