@@ -1,6 +1,7 @@
 /*
  * Timing networks: checks a sheet, runs it to a horizon, reports pulses that are too short for a coil,
- * converts the sheet to the other edition, and says in words what a call answers.
+ * converts the sheet to the other edition, loads it with a drive that is drawn from a seed, and says in words
+ * what a call answers.
  *
  * Link libtiming_c.a, which is compiled for x86-64 Linux. It asks for memcpy and memset alone.
  * What a sheet is, and every word used here, is in document 01; how to begin, in README.md.
@@ -17,9 +18,10 @@ extern "C" {
 
 /*
  * answer[0], the number. A call answers TIMING_FINISHED, or the first refusal that the sheet, read
- * front to back, or the run, the report or the conversion meets. A strict check gives 0 and 2 to 18 but 9, a
- * check these but 15, a run 0 to 20 but 9 and 15, a report of pulses what a run gives, 24 and 25, a conversion
- * what a check gives and 23, to the first edition 22 as well, describing 0 and 21. No call gives 9 any more.
+ * front to back, or the run, the report, the conversion or the load meets. A strict check gives 0 and 2 to 18
+ * but 9, a check these but 15, a run 0 to 20 but 9 and 15, a report of pulses what a run gives, 24 and 25, a
+ * conversion what a check gives and 23, to the first edition 22 as well, a load what a check gives, 23 and 26,
+ * describing 0 and 21. No call gives 9 any more.
  */
 enum timing_number {
     /* the sheet is accepted, the run has reached its horizon, or report, sheet or text is written */
@@ -67,14 +69,17 @@ enum timing_number {
     /* While converting to the first edition; the place is the first byte of the first such record. */
     TIMING_KIND_NOT_IN_FIRST = 22, /* a module: kind above 9, which the first edition lacks */
 
-    /* While converting; the place is the length needed. */
+    /* While converting or loading; the place is the length needed. */
     TIMING_OUTPUT_SHORT = 23, /* the output's buffer is shorter than the sheet to be written */
 
     /* Reporting pulses, before reading and next after the horizon; the place is 0. */
     TIMING_WIDTH_OUTSIDE = 24, /* width 0 or above 10,000 */
 
     /* Reporting pulses, after the run; the place is the count of pulses to report. */
-    TIMING_REPORT_SHORT = 25 /* the report's buffer cannot take all pulses: lend more */
+    TIMING_REPORT_SHORT = 25, /* the report's buffer cannot take all pulses: lend more */
+
+    /* While loading, after the sheet's check and before 23; the place is 0. */
+    TIMING_DRAWN_TOO_MANY = 26 /* the inputs and n together above 1,024, or n above 0 and no input */
 };
 
 /* The values of a cell, as they stand in a listing. */
@@ -123,8 +128,8 @@ enum timing_value {
  * All calls:
  *
  * answer[0] is the number, answer[1] the place (0 where the number is 0) and answer[2] the count: of
- * records written, of the pulses of a report, of the bytes of a converted sheet, or of the bytes of a
- * sentence. All three are written by every call.
+ * records written, of the pulses of a report, of the bytes of a converted or loaded sheet, or of the bytes of
+ * a sentence. All three are written by every call.
  *
  * Nothing is asked of the sheet's bytes, of numbers and of lengths; listing, report, output, text and answer
  * may hold anything before. Of the memory:
@@ -133,8 +138,8 @@ enum timing_value {
  * - sheet has as many bytes as length says, listing, output and text as many as bytes says, report as many
  *   as report_bytes says, answer three words. Before the call returns nobody else writes to the sheet, or
  *   reads or writes the other areas.
- * - The areas of a call do not overlap: no sheet is converted in its place, and no report stands in its
- *   listing. The calls are proved, and compiled, for areas of their own: what is written over another area
+ * - The areas of a call do not overlap: no sheet is converted or loaded in its place, and no report stands in
+ *   its listing. The calls are proved, and compiled, for areas of their own: what is written over another area
  *   would change what they take for unchanged.
  *
  * None keeps anything between calls or touches other memory than the lent areas and the stack, so
@@ -145,8 +150,8 @@ enum timing_value {
  * The bytes of stack that a call uses below its caller's frame, whatever it is given: measured (214.7,
  * 234.6 and 3.1 KiB) and rounded up, the first two to 16 KiB. A thread needs some for itself besides.
  * A strict check uses no more than a check is said to, and the second edition's calls use no more than the
- * first's are said to. A conversion uses no more than a check is said to, and a report of pulses no more
- * than a run is said to.
+ * first's are said to. A conversion and a load use no more than a check is said to, and a report of pulses no
+ * more than a run is said to.
  */
 #define TIMING_CHECK_STACK 229376
 #define TIMING_RUN_STACK 245760
@@ -156,8 +161,8 @@ enum timing_value {
  * A sheet has one of two editions. In the first a module's record has 7 bytes and its kind is 0 to 9. In the
  * second it has 8 bytes, the third input standing before the delay, and its kind is 0 to 15: 10 to 14 are
  * AND, OR, XOR, NAND and NOR of three inputs, 15 is a multiplexer (document 02, W-205). A check, a strict
- * check, a run and a report of pulses have a call of the same name with _2 at its end, which takes a sheet of
- * the second edition; what is said of the first edition's holds of it.
+ * check, a run, a report of pulses and a load have a call of the same name with _2 at its end, which takes a
+ * sheet of the second edition; what is said of the first edition's holds of it.
  */
 
 /* Checks the sheet without running it. The count is always 0. A run refuses the same sheets. */
@@ -226,6 +231,29 @@ void timing_convert_1_to_2(const uint8_t *sheet, size_t length, uint8_t *output,
                            uint32_t answer[3]);
 void timing_convert_2_to_1(const uint8_t *sheet, size_t length, uint8_t *output, size_t bytes,
                            uint32_t answer[3]);
+
+/*
+ * Loads the sheet with a drive that is drawn from the seed, in place of its own, and writes it to the front of
+ * the output. All bytes but the drive's stay in their order, and a strict check accepts the sheet. Sheets of
+ * either edition with the same inputs get the same drive from one seed and n.
+ *
+ * A draw first adds 2654435769 to a state of 32 bits, modulo 2 to the power 32; its result is the state's
+ * upper 16 bits exclusive-or the lower 16. The state starts as the seed. Each input, rising, has an event at
+ * tick 0, and n events follow, each at a later tick than the one before, all of TIMING_LOW or TIMING_HIGH. The
+ * value of an input's event is a draw modulo 2. For each of the n events there are three draws: the tick
+ * grows, from 0 on, by 1 plus the first modulo 64; the second, modulo the count of inputs, is the position of
+ * its input among them, counted from 0; the third, modulo 2, is its value.
+ *
+ * Finished: the loaded sheet stands first in the output, the count is its length, which is at most
+ * TIMING_LONGEST_SHEET, TIMING_LONGEST_SHEET_2 in the second edition, and the bytes past it are as they were.
+ * Refused: the output is as it was, and the count is 0. In this order: what the check of the sheet's own
+ * edition refuses, also of the drive that would be replaced; TIMING_DRAWN_TOO_MANY; TIMING_OUTPUT_SHORT, where
+ * an output of just the length needed is enough.
+ */
+void timing_load(const uint8_t *sheet, size_t length, uint32_t seed, uint32_t n, uint8_t *output,
+                 size_t bytes, uint32_t answer[3]);
+void timing_load_2(const uint8_t *sheet, size_t length, uint32_t seed, uint32_t n, uint8_t *output,
+                   size_t bytes, uint32_t answer[3]);
 
 /*
  * Describes an answer, given by its three words, as a sentence in plain words: what is wrong, the place

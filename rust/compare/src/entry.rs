@@ -37,6 +37,17 @@ type Convert = unsafe extern "C" fn(
     answer: *mut [u32; 3],
 );
 
+/// A load's entry point.
+type Load = unsafe extern "C" fn(
+    sheet: *const u8,
+    sheet_len: usize,
+    seed: u32,
+    n: u32,
+    output: *mut u8,
+    output_len: usize,
+    answer: *mut [u32; 3],
+);
+
 mod c {
     extern "C" {
         pub fn timing_check(sheet: *const u8, sheet_len: usize, answer: *mut [u32; 3]);
@@ -95,6 +106,25 @@ mod c {
         pub fn timing_convert_2_to_1(
             sheet: *const u8,
             sheet_len: usize,
+            output: *mut u8,
+            output_len: usize,
+            answer: *mut [u32; 3],
+        );
+
+        pub fn timing_load(
+            sheet: *const u8,
+            sheet_len: usize,
+            seed: u32,
+            n: u32,
+            output: *mut u8,
+            output_len: usize,
+            answer: *mut [u32; 3],
+        );
+        pub fn timing_load_2(
+            sheet: *const u8,
+            sheet_len: usize,
+            seed: u32,
+            n: u32,
             output: *mut u8,
             output_len: usize,
             answer: *mut [u32; 3],
@@ -200,6 +230,27 @@ pub fn convert(from: Edition, sheet: &[u8], output: &mut [u8]) -> [u32; 3] {
         call(
             sheet.as_ptr(),
             sheet.len(),
+            output.as_mut_ptr(),
+            output.len(),
+            &mut answer,
+        );
+    }
+    answer
+}
+
+/// Writes the sheet, its drive replaced by one of `n` events more than inputs that the seed gives, to the
+/// front of `output`. The answer is number (0 where the output took the sheet), place and count, the bytes
+/// written.
+pub fn load(edition: Edition, sheet: &[u8], seed: u32, n: u32, output: &mut [u8]) -> [u32; 3] {
+    let call = by_edition::<Load>(edition, c::timing_load, c::timing_load_2);
+    let mut answer = [UNWRITTEN; 3];
+    // SAFETY: as above; the output's bytes are written, too, and lent for the whole call.
+    unsafe {
+        call(
+            sheet.as_ptr(),
+            sheet.len(),
+            seed,
+            n,
             output.as_mut_ptr(),
             output.len(),
             &mut answer,

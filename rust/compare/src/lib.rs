@@ -1,15 +1,17 @@
 //! The C entry points of the proved library as safe functions, and what its tests share.
 
-mod converted;
 mod entry;
 mod hex;
 mod lent;
+mod made;
+mod outcome;
 mod place;
 mod stream;
 
-pub use converted::converted;
-pub use entry::{check, check_strict, convert, describe, pulses, run};
+pub use entry::{check, check_strict, convert, describe, load, pulses, run};
 pub use hex::hex;
 pub use lent::Lent;
+pub use made::{converted, loaded};
+pub use outcome::Outcome;
 pub use place::{program, repository, table_generator};
 pub use stream::{count, seed};

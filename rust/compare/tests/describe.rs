@@ -173,6 +173,6 @@ fn sorts() {
     for number in 1..=40 {
         let text = String::from_utf8(text([number, 7, 0])).expect("it is text");
         assert!(text.contains(sort(number)), "{text}");
-        assert_eq!(text.contains("not listed"), number > 25, "{text}");
+        assert_eq!(text.contains("not listed"), number > 26, "{text}");
     }
 }

@@ -50,6 +50,8 @@ fn what_it_offers_and_asks_for() {
             "timing_convert_1_to_2",
             "timing_convert_2_to_1",
             "timing_describe",
+            "timing_load",
+            "timing_load_2",
             "timing_pulses",
             "timing_pulses_2",
             "timing_run",

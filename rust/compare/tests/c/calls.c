@@ -8,9 +8,11 @@
  *     calls pulses HORIZON WIDTH LISTING_BYTES REPORT_BYTES
  *     calls convert_1_to_2 BYTES
  *     calls convert_2_to_1 BYTES
+ *     calls load SEED N BYTES
  *     calls describe NUMBER PLACE COUNT BYTES
  *
- * Over a sheet of the second edition the first four are check_2, check_strict_2, run_2 and pulses_2.
+ * Over a sheet of the second edition the first four are check_2, check_strict_2, run_2 and pulses_2, and a load
+ * is load_2. A call that changes the sheet fails.
  */
 #include <inttypes.h>
 #include <stdio.h>
@@ -28,6 +30,7 @@ typedef void run_type(const uint8_t *, size_t, uint32_t, uint8_t *, size_t, uint
 typedef void pulses_type(const uint8_t *, size_t, uint32_t, uint32_t, uint8_t *, size_t, uint8_t *, size_t,
                          uint32_t *);
 typedef void convert_type(const uint8_t *, size_t, uint8_t *, size_t, uint32_t *);
+typedef void load_type(const uint8_t *, size_t, uint32_t, uint32_t, uint8_t *, size_t, uint32_t *);
 
 static const struct {
     const char *name;
@@ -63,9 +66,18 @@ static const struct {
     {"convert_2_to_1", timing_convert_2_to_1}
 };
 
+static const struct {
+    const char *name;
+    load_type *call;
+} loads[] = {
+    {"load", timing_load},
+    {"load_2", timing_load_2}
+};
+
 static void (*const describe_call)(uint32_t, uint32_t, uint32_t, uint8_t *, size_t, uint32_t *) = timing_describe;
 
 static uint8_t sheet[2 * TIMING_LONGEST_SHEET_2];
+static uint8_t given[sizeof sheet]; /* as it was */
 static uint8_t lent[60000];
 static uint8_t report[60000];
 
@@ -121,6 +133,16 @@ static void convert(convert_type *call, size_t length, size_t bytes)
     print_bytes(lent, bytes);
 }
 
+static void load(load_type *call, size_t length, const uint32_t words[2], size_t bytes)
+{
+    uint32_t answer[3] = {UINT32_MAX, UINT32_MAX, UINT32_MAX};
+
+    memset(lent, UNTOUCHED, sizeof lent);
+    call(sheet, length, words[0], words[1], lent, bytes, answer);
+    print_answer(answer);
+    print_bytes(lent, bytes);
+}
+
 static void describe(const uint32_t words[3], size_t bytes)
 {
     uint32_t answer[3] = {UINT32_MAX, UINT32_MAX, UINT32_MAX};
@@ -136,14 +158,13 @@ static uint32_t word(const char *digits)
     return (uint32_t)strtoul(digits, NULL, 10);
 }
 
-int main(int argc, char **argv)
+/* Whether the call that is asked for was made. */
+static int is_made(int argc, char **argv, size_t length)
 {
-    size_t length = fread(sheet, 1, sizeof sheet, stdin);
-
     for (size_t i = 0; i < sizeof checks / sizeof *checks; i++) {
         if (argc == 2 && strcmp(argv[1], checks[i].name) == 0) {
             check(checks[i].call, length);
-            return EXIT_SUCCESS;
+            return 1;
         }
     }
     for (size_t i = 0; i < sizeof runs / sizeof *runs; i++) {
@@ -152,7 +173,7 @@ int main(int argc, char **argv)
 
             if (bytes <= sizeof lent) {
                 run(runs[i].call, length, word(argv[2]), bytes);
-                return EXIT_SUCCESS;
+                return 1;
             }
         }
     }
@@ -163,7 +184,7 @@ int main(int argc, char **argv)
 
             if (bytes <= sizeof lent && report_bytes <= sizeof report) {
                 pulses(reports[i].call, length, words, bytes, report_bytes);
-                return EXIT_SUCCESS;
+                return 1;
             }
         }
     }
@@ -173,7 +194,18 @@ int main(int argc, char **argv)
 
             if (bytes <= sizeof lent) {
                 convert(conversions[i].call, length, bytes);
-                return EXIT_SUCCESS;
+                return 1;
+            }
+        }
+    }
+    for (size_t i = 0; i < sizeof loads / sizeof *loads; i++) {
+        if (argc == 5 && strcmp(argv[1], loads[i].name) == 0) {
+            const uint32_t words[2] = {word(argv[2]), word(argv[3])};
+            size_t bytes = strtoul(argv[4], NULL, 10);
+
+            if (bytes <= sizeof lent) {
+                load(loads[i].call, length, words, bytes);
+                return 1;
             }
         }
     }
@@ -183,11 +215,22 @@ int main(int argc, char **argv)
 
         if (bytes <= sizeof lent) {
             describe(words, bytes);
-            return EXIT_SUCCESS;
+            return 1;
         }
     }
-    fprintf(stderr, "usage: calls CHECK | calls RUN HORIZON BYTES |"
-                    " calls PULSES HORIZON WIDTH LISTING_BYTES REPORT_BYTES | calls CONVERSION BYTES |"
-                    " calls describe NUMBER PLACE COUNT BYTES\n");
-    return EXIT_FAILURE;
+    return 0;
+}
+
+int main(int argc, char **argv)
+{
+    size_t length = fread(sheet, 1, sizeof sheet, stdin);
+
+    memcpy(given, sheet, sizeof sheet);
+    if (!is_made(argc, argv, length)) {
+        fprintf(stderr, "usage: calls CHECK | calls RUN HORIZON BYTES |"
+                        " calls PULSES HORIZON WIDTH LISTING_BYTES REPORT_BYTES | calls CONVERSION BYTES |"
+                        " calls LOAD SEED N BYTES | calls describe NUMBER PLACE COUNT BYTES\n");
+        return EXIT_FAILURE;
+    }
+    return memcmp(sheet, given, sizeof sheet) == 0 ? EXIT_SUCCESS : EXIT_FAILURE;
 }

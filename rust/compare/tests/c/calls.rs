@@ -8,7 +8,8 @@ use generate::limits::RECORD_BYTES;
 use generate::shared::{four_buffers, toggled};
 use generate::sheets::constant;
 use generate::{
-    by_hand, conversions_by_hand, drivers_by_hand, pulses_by_hand, runs_by_hand, Generator,
+    by_hand, conversions_by_hand, drivers_by_hand, loads_by_hand, pulses_by_hand, runs_by_hand,
+    Generator,
 };
 use plain::{sentence, worked_run, Answer, Edition, Sheet, HIGH};
 
@@ -91,6 +92,26 @@ fn converted(from: Edition, sheet: &[u8], bytes: usize, whence: &str) -> [u32; 3
         Edition::Second => "convert_2_to_1",
     };
     let printed = CALLS.printed(&[call.to_string(), bytes.to_string()], sheet);
+    let expected = format!("{}{}\n", words(answer), hex(&output));
+    assert_eq!(printed, expected, "{whence}: {}", hex(sheet));
+    answer
+}
+
+/// Asserts that a load from C answers what the plain simulator does and leaves the same bytes, and gives the
+/// answer.
+fn loaded(
+    edition: Edition,
+    sheet: &[u8],
+    [seed, n]: [u32; 2],
+    bytes: usize,
+    whence: &str,
+) -> [u32; 3] {
+    let mut output = vec![UNTOUCHED; bytes];
+    let answer = plain::load(edition, sheet, seed, n, &mut output).triple();
+    let mut arguments = vec![call_of(edition, "load")];
+    arguments.extend([seed, n].map(|word| word.to_string()));
+    arguments.push(bytes.to_string());
+    let printed = CALLS.printed(&arguments, sheet);
     let expected = format!("{}{}\n", words(answer), hex(&output));
     assert_eq!(printed, expected, "{whence}: {}", hex(sheet));
     answer
@@ -199,6 +220,22 @@ fn pulses_worked_out_by_hand() {
     }
 }
 
+/// Document 02's W-210 from C: refusals 2 to 18 but 9 and 15, 23 and 26, and what is written.
+#[test]
+fn loads_worked_out_by_hand() {
+    for case in loads_by_hand::cases() {
+        let numbers = [case.seed, case.n];
+        let answer = loaded(
+            case.edition,
+            &case.sheet,
+            numbers,
+            case.bytes,
+            &case.whence(),
+        );
+        assert_eq!(answer, case.answer, "{}", case.whence());
+    }
+}
+
 /// Document 02's W-205 from C.
 #[test]
 fn runs_of_three_inputs() {
@@ -237,5 +274,8 @@ fn a_full_sheet() {
         // Many modules of the second edition's sheet have three inputs.
         let [number, ..] = converted(edition, &sheet, 60_000, "full");
         assert_eq!(number, if edition == Edition::First { 0 } else { 22 });
+        // It has one input.
+        let [number, _, count] = loaded(edition, &sheet, [7, 1_023], 60_000, "full");
+        assert_eq!([number, count], [0, sheet.len() as u32]);
     }
 }

@@ -43,7 +43,8 @@ fn cases(file: &str, word: &str) -> Vec<Named> {
 }
 
 /// Every refusal's name and number: 2 to 18 but 9, then those of a run, that of a description, those of a
-/// conversion, of which the last is that of any sheet to be written, and those of a report of pulses.
+/// conversion, of which the last is that of any sheet to be written, those of a report of pulses and that
+/// of a load.
 pub fn refusals() -> Vec<Named> {
     let of_a_sheet = cases("format/specs/Condition.antt", "ConditionBy ");
     let of_a_run = cases("network/specs/RunConditions.antt", "(refused ");
@@ -51,6 +52,7 @@ pub fn refusals() -> Vec<Named> {
     let of_a_conversion = constants("convert/specs/Conversion.antt");
     let of_an_output = constants("format/specs/Made.antt");
     let of_a_report = constants("pulses/specs/Reporting.antt");
+    let of_a_load = constants("draw/specs/Loading.antt");
     [
         of_a_sheet,
         of_a_run,
@@ -58,6 +60,7 @@ pub fn refusals() -> Vec<Named> {
         of_a_conversion,
         of_an_output,
         of_a_report,
+        of_a_load,
     ]
     .concat()
 }

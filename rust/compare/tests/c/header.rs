@@ -76,7 +76,7 @@ pub fn refusals_of_header() -> Vec<Named> {
 fn refusals() {
     let mut in_header = refusals_of_header();
     let numbers: Vec<u32> = in_header.iter().map(|&(_, number)| number).collect();
-    assert_eq!(numbers, Vec::from_iter(1..=25));
+    assert_eq!(numbers, Vec::from_iter(1..=26));
     assert_eq!(in_header.remove(8), ("TIMING_ALREADY_DRIVEN".into(), 9));
     same(in_header, definitions::refusals());
 }

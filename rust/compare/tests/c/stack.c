@@ -9,9 +9,11 @@
  *     stack pulses HORIZON WIDTH
  *     stack convert_1_to_2
  *     stack convert_2_to_1
+ *     stack load SEED N
  *     stack describe NUMBER PLACE COUNT
  *
- * Over a sheet of the second edition the first four are check_2, check_strict_2, run_2 and pulses_2.
+ * Over a sheet of the second edition the first four are check_2, check_strict_2, run_2 and pulses_2, and a load
+ * is load_2.
  */
 #define _POSIX_C_SOURCE 200809L
 
@@ -70,6 +72,10 @@ static void *call_on(void *stack)
         timing_convert_1_to_2(sheet, length, output, sizeof output, answer);
     else if (strcmp(call, "convert_2_to_1") == 0)
         timing_convert_2_to_1(sheet, length, output, sizeof output, answer);
+    else if (strcmp(call, "load") == 0)
+        timing_load(sheet, length, words[0], words[1], output, sizeof output, answer);
+    else if (strcmp(call, "load_2") == 0)
+        timing_load_2(sheet, length, words[0], words[1], output, sizeof output, answer);
     else
         timing_describe(words[0], words[1], words[2], text, sizeof text, answer);
     used = frame - lowest_touched(stack);

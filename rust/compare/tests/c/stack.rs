@@ -1,13 +1,16 @@
 //! No call uses more stack than the header says.
 
+use generate::limits::MOST_NODES;
+use generate::sheets::sheet;
 use generate::{Generator, Size};
-use plain::{worked_run, Edition};
+use plain::{worked_run, Edition, INPUT};
 
 use crate::compiled::Program;
 use crate::header::macro_of;
 
-/// Refused at once, small, and every section at its limit, half of them with several drivers a node. Of those in the second edition half have the
-/// first's kinds alone, so that they are converted.
+/// Refused at once, small, with nothing but inputs, and every section at its limit, half of them with
+/// several drivers a node. Of those in the second edition half have the first's kinds alone, so that they
+/// are converted.
 fn sheets(edition: Edition) -> Vec<Vec<u8>> {
     let kinds_of = match edition {
         Edition::First => &[Edition::First][..],
@@ -23,7 +26,12 @@ fn sheets(edition: Edition) -> Vec<Vec<u8>> {
             sheet.encode(edition)
         })
     });
-    let others = [Vec::new(), worked_run::sheet().encode(edition)];
+    let inputs = sheet(&[INPUT; MOST_NODES], &[], &[], &[]);
+    let others = [
+        Vec::new(),
+        worked_run::sheet().encode(edition),
+        inputs.encode(edition),
+    ];
     others.into_iter().chain(full).collect()
 }
 
@@ -65,15 +73,15 @@ fn stated(name: &str, used: u32) {
 #[test]
 fn the_stack_of_every_call() {
     let program = Program::new("stack");
-    for (edition, [check, check_strict, convert], [run, pulses]) in [
+    for (edition, [check, check_strict, convert, load], [run, pulses]) in [
         (
             Edition::First,
-            ["check", "check_strict", "convert_1_to_2"],
+            ["check", "check_strict", "convert_1_to_2", "load"],
             ["run", "pulses"],
         ),
         (
             Edition::Second,
-            ["check_2", "check_strict_2", "convert_2_to_1"],
+            ["check_2", "check_strict_2", "convert_2_to_1", "load_2"],
             ["run_2", "pulses_2"],
         ),
     ] {
@@ -81,6 +89,8 @@ fn the_stack_of_every_call() {
         stated("TIMING_CHECK_STACK", most_used(&[check]));
         stated("TIMING_CHECK_STACK", most_used(&[check_strict]));
         stated("TIMING_CHECK_STACK", most_used(&[convert]));
+        // 256 inputs fill a drive with so many.
+        stated("TIMING_CHECK_STACK", most_used(&[load, "7", "768"]));
         stated("TIMING_RUN_STACK", most_used(&[run, "2000"]));
         stated("TIMING_RUN_STACK", most_used(&[pulses, "2000", "100"]));
     }

@@ -1,8 +1,9 @@
 //! Sheets written out in both editions, and what a conversion refuses, worked out by hand.
 
+use compare::Outcome;
 use generate::conversions_by_hand;
 
-use crate::agreed::{agreed, Outcome};
+use crate::agreed::agreed;
 
 #[test]
 fn worked_out_by_hand() {

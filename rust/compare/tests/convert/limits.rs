@@ -1,11 +1,12 @@
 //! The longest sheets, and the most modules.
 
+use compare::Outcome;
 use generate::limits::LONGEST_SHEETS;
 use generate::sheets::*;
 use generate::Generator;
 use plain::Edition;
 
-use crate::agreed::{agreed, Outcome};
+use crate::agreed::agreed;
 
 /// Every section is full: with 256 modules so many bytes are gained and lost.
 #[test]

@@ -9,6 +9,7 @@ mod event_driven;
 mod faults;
 mod generated;
 mod limits;
+mod loaded;
 mod reading;
 mod renumbered;
 mod several_drivers;

@@ -23,8 +23,7 @@ fn a_run_worked_out_by_hand() {
 /// The sheet with an event of X at tick 0 for each input that has none, if there is room.
 fn with_events_of_x(sheet: &Sheet) -> Option<Sheet> {
     let mut whole = sheet.clone();
-    let inputs = sheet.node_numbers().filter(|&node| sheet.has_input(node));
-    let late = inputs.zip(starts_of(sheet));
+    let late = sheet.inputs().zip(starts_of(sheet));
     let late = late.filter(|&(_, start)| start != Start::AtOnce);
     whole
         .drive

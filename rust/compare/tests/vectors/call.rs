@@ -8,6 +8,9 @@ use crate::vector::{Outcome, Vector, UNTOUCHED};
 /// A report of pulses, given the horizon and the width.
 type Pulses = fn(Edition, &[u8], u32, u32, &mut [u8], &mut [u8]) -> [u32; 3];
 
+/// A load, given the seed and the count of events.
+type Load = fn(Edition, &[u8], u32, u32, &mut [u8]) -> [u32; 3];
+
 /// The calls that vectors name, each giving number, place and count.
 pub struct Simulator {
     pub name: &'static str,
@@ -16,6 +19,7 @@ pub struct Simulator {
     run: fn(Edition, &[u8], u32, &mut [u8]) -> [u32; 3],
     convert: fn(Edition, &[u8], &mut [u8]) -> [u32; 3],
     pulses: Pulses,
+    load: Load,
 }
 
 pub const PROVED: Simulator = Simulator {
@@ -25,6 +29,7 @@ pub const PROVED: Simulator = Simulator {
     run: compare::run,
     convert: compare::convert,
     pulses: compare::pulses,
+    load: compare::load,
 };
 
 pub const PLAIN: Simulator = Simulator {
@@ -36,6 +41,7 @@ pub const PLAIN: Simulator = Simulator {
     pulses: |edition, sheet, horizon, width, listing, report| {
         plain::pulses(edition, sheet, horizon, width, listing, report).triple()
     },
+    load: |edition, sheet, seed, n, output| plain::load(edition, sheet, seed, n, output).triple(),
 };
 
 impl Simulator {
@@ -60,6 +66,9 @@ impl Simulator {
                     (self.pulses)(edition, sheet, horizon, width, listing, report)
                 })
             }
+            ("load", &[seed, n, length]) => over_buffers([length], |[output]| {
+                (self.load)(edition, sheet, seed, n, output)
+            }),
             (call, numbers) => panic!("line {}: {call} with {numbers:?}", vector.line),
         }
     }

@@ -4,7 +4,7 @@
 //!
 //! W-209 changes what the calls come to that gave 9: the 19 of them are left out of the files before it.
 //! These files stay, for W-209's own has no run that meets 20 and lacks other answers that they have, and
-//! they show that sheets with one driver a node are what they were.
+//! they show that sheets with one driver a node are what they were. W-210 changes no call of an earlier file.
 
 mod call;
 mod vector;
@@ -28,6 +28,9 @@ const AFTER_208: &str = include_str!("after-208.txt");
 
 /// Those up to W-209: sheets with several drivers a node, and what the files before have.
 const AFTER_209: &str = include_str!("after-209.txt");
+
+/// Those up to W-210: loads, and what the files before have.
+const AFTER_210: &str = include_str!("after-210.txt");
 
 /// Asserts that both simulators give every vector's outcome, and that there are so many of each call in
 /// each edition.
@@ -121,6 +124,25 @@ fn after_209() {
     hold(AFTER_209, &calls);
 }
 
+#[test]
+fn after_210() {
+    let calls = [
+        (Edition::First, "check", 41),
+        (Edition::First, "check_strict", 46),
+        (Edition::First, "run", 44),
+        (Edition::First, "convert", 51),
+        (Edition::First, "pulses", 54),
+        (Edition::First, "load", 218),
+        (Edition::Second, "check", 41),
+        (Edition::Second, "check_strict", 48),
+        (Edition::Second, "run", 44),
+        (Edition::Second, "convert", 50),
+        (Edition::Second, "pulses", 53),
+        (Edition::Second, "load", 212),
+    ];
+    hold(AFTER_210, &calls);
+}
+
 /// No call gives 9 any more, and of the sheets that are accepted many have several drivers a node.
 #[test]
 fn several_drivers() {
@@ -131,7 +153,9 @@ fn several_drivers() {
     };
     let shared = vectors.iter().filter(is_shared).count();
     assert!(shared >= 300, "{shared} calls");
-    let files = [AFTER_204, AFTER_205, AFTER_207, AFTER_208, AFTER_209];
+    let files = [
+        AFTER_204, AFTER_205, AFTER_207, AFTER_208, AFTER_209, AFTER_210,
+    ];
     let answers = files.into_iter().flat_map(vector::all);
     assert!(answers.into_iter().all(|v| v.expected.answer[0] != 9));
 }

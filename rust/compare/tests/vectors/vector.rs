@@ -16,7 +16,8 @@ pub struct Vector<'a> {
     pub edition: Edition,
     pub call: &'a str,
     /// For a run, the bytes of the listing's buffer, and for a conversion, of the output's. For a report of
-    /// pulses, the width, the bytes of the listing's buffer and of the report's.
+    /// pulses, the width, the bytes of the listing's buffer and of the report's. For a load, the seed, the
+    /// count of events and the bytes of the output's buffer.
     pub numbers: Vec<u32>,
     pub horizon: u32,
     pub sheet: Vec<u8>,
