@@ -59,7 +59,7 @@ fn generated(edition: Edition) {
     println!("{edition:?}, seed {seed}: {met:?}");
     assert!(met.finished >= 5_000, "seed {seed}: {met:?}");
     assert!(met.full_buffers >= 1_000, "seed {seed}: {met:?}");
-    assert!(met.driven >= 2_000, "seed {seed}: {met:?}");
+    assert!(met.driven >= 1_000, "seed {seed}: {met:?}");
 }
 
 #[test]
