@@ -79,7 +79,7 @@ const PHRASES: [(&str, Sort); 26] = [
     ("the pulse width is not from 1 to 10,000 ticks", Bare),
     ("the report buffer has no room for all pulses", Pulses),
     (
-        "more than 1,024 events with those drawn, or events to draw and no input",
+        "the inputs and the events to draw are more than 1,024 together, or there is no input to draw events for",
         Bare,
     ),
 ];

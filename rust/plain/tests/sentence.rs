@@ -58,8 +58,8 @@ fn sentences() {
         ),
         (
             refused(26, 0, 0),
-            "refused: more than 1,024 events with those drawn, or events to draw and no input, place \
-             0; records written: 0",
+            "refused: the inputs and the events to draw are more than 1,024 together, or there is \
+             no input to draw events for, place 0; records written: 0",
         ),
         (
             refused(27, 1, 2),
