@@ -55,7 +55,7 @@ returns-2 : tie.Need-returns-2
 returns-2 c =
     let a = c .before .before .before .before .before .before .before .before .before .before .before .before .before .args in
     let made = answers {before = before (c .before .before .before .before .before .before)} (sheetMade (written (c .before .before .before .before .before .before))) (a .output .now) (sym (answered (c .before .before .before .before .before .before)) ∙ ap outcomeOf (c .before .before .before .before .enum-told .given .1)) in
-    let put = whole (c .before .before .put-sheet .ensures _ [] (none-printed _)) (success made .fits) in
+    let put = whole {bytes = written (c .before .before .before .before .before .before)} (c .before .before .put-sheet .ensures _ [] (none-printed _)) (success made .fits) in
     record { answered = answered (c .before .before .before .before .before .before); left = put .1 ∙ made .left }
 
 -- a refusal is not
