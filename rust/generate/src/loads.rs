@@ -4,6 +4,7 @@
 use plain::{Edition, Sheet, INPUT};
 
 use crate::assert_met;
+use crate::drivers::has_several_drivers;
 use crate::limits::{EVENT_BYTES, MOST_EVENTS, MOST_NODES};
 use crate::sheets::Change;
 use crate::{byte, starts_of, Start};
@@ -100,10 +101,16 @@ pub struct LoadsMet {
     driven_before: u64,
     /// Those of which some input has no event at tick 0.
     begun_late: u64,
+    /// Those with several drivers a node.
+    several_drivers: u64,
     /// Those whose own drive has fewer events, as many, and more.
     longer: u64,
     as_long: u64,
     shorter: u64,
+    /// Loads from the first seed, from the second and from the last.
+    first_seed: u64,
+    second_seed: u64,
+    last_seed: u64,
     /// Loads of no event but the inputs', of one more, and of as many as there may be.
     none_drawn: u64,
     one_drawn: u64,
@@ -117,7 +124,7 @@ pub struct LoadsMet {
 
 impl LoadsMet {
     /// Adds a load of an accepted sheet.
-    pub fn add(&mut self, sheet: &Sheet, n: u32) {
+    pub fn add(&mut self, sheet: &Sheet, seed: u32, n: u32) {
         let inputs = sheet.inputs().count();
         let events = inputs + n as usize;
         if inputs == 0 && n > 0 {
@@ -129,6 +136,9 @@ impl LoadsMet {
         } else {
             self.add_inputs(sheet, inputs);
             self.add_events(sheet, events, n);
+            self.first_seed += u64::from(seed == 0);
+            self.second_seed += u64::from(seed == 1);
+            self.last_seed += u64::from(seed == u32::MAX);
         }
     }
 
@@ -144,6 +154,7 @@ impl LoadsMet {
         self.driven_before += u64::from(is_apart);
         let starts = starts_of(sheet);
         self.begun_late += u64::from(starts.iter().any(|&start| start != Start::AtOnce));
+        self.several_drivers += u64::from(has_several_drivers(sheet));
     }
 
     fn add_events(&mut self, sheet: &Sheet, events: usize, n: u32) {
@@ -165,9 +176,13 @@ impl LoadsMet {
             self.all_inputs,
             self.driven_before,
             self.begun_late,
+            self.several_drivers,
             self.longer,
             self.as_long,
             self.shorter,
+            self.first_seed,
+            self.second_seed,
+            self.last_seed,
             self.none_drawn,
             self.one_drawn,
             self.all_drawn,

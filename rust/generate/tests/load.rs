@@ -59,7 +59,7 @@ fn mixture(edition: Edition) {
         let number = expected.map_or_else(|refusal| refusal.triple()[0], |_| 0);
         met[number as usize] += 1;
         if let Ok(sheet) = read(edition, &input.sheet) {
-            loads_met.add(&sheet, input.n);
+            loads_met.add(&sheet, input.seed, input.n);
         }
     }
     println!("{edition:?}: answers by number, 0 for loaded: {met:?}; {loads_met:?}");

@@ -38,7 +38,7 @@ fn generated(edition: Edition) {
         let input = inputs.load_input();
         let needed = needed(edition, &input);
         if let Ok(sheet) = plain::read(edition, &input.sheet) {
-            loads_met.add(&sheet, input.n);
+            loads_met.add(&sheet, input.seed, input.n);
         }
         for (output, met) in &mut met {
             let length = outputs.output_bytes(*output, needed);

@@ -32,6 +32,7 @@ fn one_refusal_after_the_other() {
         // Each alone is refused alike, and so are two at once.
         assert_eq!(asked(cut_short, 2, needed), ends_inside);
         assert_eq!(asked(cut_short, 1_024, 10_000), ends_inside);
+        assert_eq!(asked(cut_short, u32::MAX, 0), ends_inside);
         assert_eq!(asked(cut_short, 2, needed - 1), ends_inside);
         assert_eq!(asked(&whole, 1_024, 10_000), [26, 0, 0]);
         assert_eq!(asked(&whole, u32::MAX, 0), [26, 0, 0]);
