@@ -13,10 +13,10 @@ pub const COUNT_SIZE: u32 = 2;
 
 pub const EVENT_SIZE: u32 = 6;
 
-// The same, to compare with lengths.
-const COUNT_BYTES: usize = COUNT_SIZE as usize;
+// The same, to reckon with lengths.
+pub const COUNT_BYTES: usize = COUNT_SIZE as usize;
 
-const EVENT_BYTES: usize = EVENT_SIZE as usize;
+pub const EVENT_BYTES: usize = EVENT_SIZE as usize;
 
 // The ranges of the counts.
 pub const LEAST_NODES: u16 = 1;

@@ -1,4 +1,4 @@
--- `draw::put_later` meets its contract. The loop's invariant: the events passed are put, and the state and the tick are those before the next one. Assumes
+-- `draw::putting::put_later` meets its contract. The loop's invariant: the events passed are put, and the state and the tick are those before the next one. Assumes
 -- nothing.
 use borrow.Author.Needs.{needs}
 use mathlib.Core.Path.{_≡_, refl, sym, ap, _∙_, subst}
@@ -14,8 +14,8 @@ use Rattle.lent.proofs.Putting.{prints-none, prints-then}
 use Rattle.draw.specs.Draw.{stateAfter}
 use Rattle.draw.specs.Drive.{tickDraw, tickBefore, laterEvent}
 use Rattle.draw.proofs.Steps.{state-next, tick-next, event-next}
-use Rattle.draw.proofs.put_later.Statement.{statement}
-use Rattle.draw.proofs.put_later.Tie as tie
+use Rattle.draw.proofs.putting.put_later.Statement.{statement}
+use Rattle.draw.proofs.putting.put_later.Tie as tie
 
 abbrev Inv-loop : tie.InvT-loop
 Inv-loop output₀ at inputs start n next₀ state₀ tick₀ k₀ output next state tick k =

@@ -1,11 +1,11 @@
--- `draw::put_event` meets its contract: a tick is two numbers of two bytes. Assumes nothing.
+-- `draw::putting::put_event` meets its contract: a tick is two numbers of two bytes. Assumes nothing.
 use borrow.Author.Needs.{needs}
 use mathlib.Core.Path.{subst}
 use Rattle.lent.specs.Lent.{Prints}
 use Rattle.lent.proofs.Putting.{prints-then}
 use Rattle.draw.proofs.Steps.{long-as-words}
-use Rattle.draw.proofs.put_event.Statement.{statement}
-use Rattle.draw.proofs.put_event.Tie as tie
+use Rattle.draw.proofs.putting.put_event.Statement.{statement}
+use Rattle.draw.proofs.putting.put_event.Tie as tie
 
 returns : tie.Need-returns
 returns c =

@@ -1,12 +1,12 @@
--- `draw::draw_event` meets its contract: three draws, one after the other. Assumes nothing.
+-- `draw::drawing::draw_event` meets its contract: three draws, one after the other. Assumes nothing.
 use borrow.Author.Needs.{needs}
 use mathlib.Core.Path.{_≡_, ap, _∙_}
 use native.Mathlib.Nat.{mod-lt}
 use Prim.Native.Nat.{_+_, _%_}
 use lib.ListN.{length, getD}
 use Rattle.draw.specs.Draw.{advanced, resultOf}
-use Rattle.draw.proofs.draw_event.Statement.{statement}
-use Rattle.draw.proofs.draw_event.Tie as tie
+use Rattle.draw.proofs.drawing.draw_event.Statement.{statement}
+use Rattle.draw.proofs.drawing.draw_event.Tie as tie
 
 shared-slice-read : tie.Need-shared-slice-read-t15
 shared-slice-read c = mod-lt (c .before .before .result-of .result) (c .before .before .before .before .before .before .before .pre .0)

@@ -1,12 +1,12 @@
--- `draw::put_drive` meets its contract: the count, the inputs' first events, the others. Assumes nothing.
+-- `draw::putting::put_drive` meets its contract: the count, the inputs' first events, the others. Assumes nothing.
 use borrow.Author.Needs.{needs}
 use mathlib.Core.Path.{subst}
 use native.Mathlib.Omega.{arith}
 use Rattle.lent.specs.Lent.{Prints}
 use Rattle.lent.proofs.Putting.{prints-then}
 use Rattle.draw.proofs.Steps.{section-parts}
-use Rattle.draw.proofs.put_drive.Statement.{statement}
-use Rattle.draw.proofs.put_drive.Tie as tie
+use Rattle.draw.proofs.putting.put_drive.Statement.{statement}
+use Rattle.draw.proofs.putting.put_drive.Tie as tie
 
 put-later-requires : tie.Need-put-later-requires
 put-later-requires c κs = (omega (arith, c .before .before .before .before .before .before .before .before .before .before .before .pre .0), c .before .before .before .before .before .before .before .before .before .before .before .pre .1)

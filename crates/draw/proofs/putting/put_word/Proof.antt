@@ -1,8 +1,8 @@
--- `draw::put_word` meets its contract. Assumes nothing.
+-- `draw::putting::put_word` meets its contract. Assumes nothing.
 use borrow.Author.Needs.{needs}
 use Rattle.lent.proofs.Putting.{prints-then}
-use Rattle.draw.proofs.put_word.Statement.{statement}
-use Rattle.draw.proofs.put_word.Tie as tie
+use Rattle.draw.proofs.putting.put_word.Statement.{statement}
+use Rattle.draw.proofs.putting.put_word.Tie as tie
 
 returns : tie.Need-returns
 returns c = prints-then (c .before .before .before .before .before .before .put .ensures) (c .before .before .put2 .ensures)

@@ -1,4 +1,4 @@
--- `draw::put_first` meets its contract. The loop's invariant: the inputs passed have their events, and as many draws are made. Assumes nothing.
+-- `draw::putting::put_first` meets its contract. The loop's invariant: the inputs passed have their events, and as many draws are made. Assumes nothing.
 use borrow.Author.Needs.{needs}
 use mathlib.Core.Path.{_≡_, refl, sym, ap, _∙_, subst}
 use native.Mathlib.Numerals.{add-one}
@@ -13,8 +13,8 @@ use Rattle.lent.specs.Lent.{Prints}
 use Rattle.lent.proofs.Putting.{prints-none, prints-then}
 use Rattle.draw.specs.Draw.{advanced, resultOf, stateAfter}
 use Rattle.draw.specs.Drive.{firstEvent}
-use Rattle.draw.proofs.put_first.Statement.{statement}
-use Rattle.draw.proofs.put_first.Tie as tie
+use Rattle.draw.proofs.putting.put_first.Statement.{statement}
+use Rattle.draw.proofs.putting.put_first.Tie as tie
 
 abbrev Inv-loop : tie.InvT-loop
 Inv-loop output₀ at inputs seed next₀ state₀ i₀ output next state i =
