@@ -11,12 +11,6 @@ module _ (seed : ℕ) where
   state-is zero = omega arith
   state-is (suc k) = ap advanced (state-is k) ∙ omega arith
 
-  -- of a seed that has 32 bits, before the first draw as well
-  pub state-of : seed < 2 ^ 32 → (k : ℕ) → stateAfter seed k ≡ (seed + k * drawStep) % 2 ^ 32
-  unfolding stateAfter
-  state-of small zero = omega (arith, small)
-  state-of small (suc k) = state-is k
-
   pub state-small : (k : ℕ) → stateAfter seed (suc k) < 2 ^ 32
   state-small k = omega (arith, state-is k)
 

@@ -4,7 +4,7 @@ use lib.Dec.{lit<}
 use lib.ListN.{length, getD, length-append, List·getD-append}
 use lib.Seq.{getD-append-add}
 use mathlib.Core.List.{List, _++_}
-use mathlib.Core.Path.{_≡_, refl, sym, ap, ap₂, _∙_, subst₂}
+use mathlib.Core.Path.{_≡_, sym, ap, ap₂, _∙_, subst₂}
 use native.Mathlib.Decide.{decLt}
 use native.Mathlib.Nat.{mod-lt}
 use native.Mathlib.Omega.{arith}
@@ -14,7 +14,6 @@ use Rattle.sheet.specs.Enumerate.{listed}
 use Rattle.sheet.specs.Refusal.{key}
 use Rattle.sheet.proofs.Listed.{length-listed, getD-listed}
 use Rattle.format.proofs.Accepted.{rises}
-use Rattle.network.proofs.Rising.{Rising}
 use Rattle.draw.specs.Draw.{draw}
 use Rattle.draw.specs.Drive.{tickDraw, inputDraw, tickBefore, firstEvent, laterEvent, drawnDrive}
 
@@ -58,7 +57,7 @@ module _ (inputs : List ℕ) (seed : ℕ) where
     rest-at a l h d = ap (λ i. getD drawn i d) (omega (arith, l)) ∙ later-at (a - length inputs) (omega (arith, l, h)) d
 
     -- Of inputs that rise and are below 256; there is one if any event is drawn for it.
-    module _ (rise : Rising (λ v. v) inputs) (small : (i : ℕ) → i < length inputs → getD inputs i 0 < 256) (some : 0 < n → 0 < length inputs) where
+    module _ (rise : (i j : ℕ) → i < j → j < length inputs → getD inputs i 0 < getD inputs j 0) (small : (i : ℕ) → i < length inputs → getD inputs i 0 < 256) (some : 0 < n → 0 < length inputs) where
       later-node : (k : ℕ) → k < n → laterEvent inputs seed k .node < 256
       later-node k h = small _ (mod-lt (draw seed (inputDraw inputs k)) (some (omega (arith, h))))
 
@@ -69,7 +68,7 @@ module _ (inputs : List ℕ) (seed : ℕ) where
           end = omega (arith, h, drawn-length)
 
           by : Dec (a < length inputs) → Dec (b < length inputs) → key (getD drawn a d) < key (getD drawn b d)
-          by (yes p) (yes q) = subst₂ (λ x y. key x < key y) (sym (first-at a p d)) (sym (first-at b q d)) (omega (arith, rise a b l q 0))
+          by (yes p) (yes q) = subst₂ (λ x y. key x < key y) (sym (first-at a p d)) (sym (first-at b q d)) (omega (arith, rise a b l q))
           by (yes p) (no q) =
               subst₂ (λ x y. key x < key y) (sym (first-at a p d)) (sym (rest-at b (omega (arith, q)) end d))
               (omega (arith, small a p, ticks-rise 0 (suc (b - length inputs)) (omega arith)))

@@ -1,12 +1,5 @@
--- The theorems of loading, and its examples.
+-- The laws of draws and of the drawn drive, and first draws.
 pub mod Computed
 pub mod Draws
-pub mod Inputs
-pub mod Found
 pub mod Drive
 pub mod Steps
-pub mod WithDrive
-pub mod Written
-pub mod Length
-pub mod Answers
-pub mod Theorems

@@ -2,7 +2,7 @@
 -- Assumes nothing.
 use lib.ListN.{length, getD}
 use mathlib.Core.List.{List, _++_, append-assoc}
-use mathlib.Core.Path.{_≡_, refl, sym, ap, ap₂, _∙_}
+use mathlib.Core.Path.{_≡_, sym, ap, ap₂, _∙_}
 use native.Mathlib.Nat.{mul-add-mod-self-right}
 use native.Mathlib.Omega.{arith}
 use Prim.Native.Nat.{ℕ, suc, _+_, _*_, _/_, _%_}
@@ -11,8 +11,7 @@ use Rattle.sheet.specs.Enumerate.{listed}
 use Rattle.format.specs.Encode.{wordBytes, longBytes, eventBytes, allBytes}
 use Rattle.format.proofs.AllBytes.{allBytes-append}
 use Rattle.draw.specs.Draw.{advanced, resultOf, stateAfter}
-use Rattle.draw.specs.Drive.{firstEvent, tickDraw, inputDraw, valueDraw, tickBefore, laterEvent, drawnDrive}
-use Rattle.draw.specs.Loaded.{driveBytes}
+use Rattle.draw.specs.Drive.{firstEvent, tickDraw, inputDraw, valueDraw, tickBefore, laterEvent, drawnDrive, driveBytes}
 use Rattle.draw.proofs.Drive.{drawn-length}
 
 -- Three draws, from the state and the tick before event k.

@@ -6,6 +6,7 @@ use Rattle.sheet.specs.declared.Event.{Event}
 use Rattle.sheet.specs.Enumerate.{chosen, listed}
 use Rattle.sheet.specs.Sheet.{Sheet, nodeCount}
 use Rattle.sheet.specs.Wiring.{isInput}
+use Rattle.format.specs.Encode.{wordBytes, eventBytes, allBytes}
 use Rattle.draw.specs.Draw.{draw}
 
 -- the inputs of a sheet, in rising order
@@ -42,3 +43,7 @@ laterEvent inputs seed k =
 
 unfoldable pub drawnDrive : List ℕ → ℕ → ℕ → List Event
 drawnDrive inputs seed n = listed (length inputs) (firstEvent inputs seed) ++ listed n (laterEvent inputs seed)
+
+-- a drive's section: the count of its events, and their records
+abbrev pub driveBytes : List Event → List ℕ
+driveBytes drive = wordBytes (length drive) ++ allBytes eventBytes drive

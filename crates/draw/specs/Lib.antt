@@ -1,6 +1,3 @@
--- The drive that is drawn from a seed, and the sheet that has it.
+-- Draws, and the drive that is drawn from them.
 pub mod Draw
 pub mod Drive
-pub mod Loaded
-pub mod Loading
-pub mod Examples

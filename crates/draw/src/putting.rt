@@ -10,8 +10,7 @@ ghost use Rattle.sheet.specs.Enumerate.{listed};
 ghost use Rattle.format.specs.Encode.{wordBytes, eventBytes, allBytes};
 ghost use Rattle.lent.specs.Lent.{Prints};
 ghost use Rattle.draw.specs.Draw.{stateAfter};
-ghost use Rattle.draw.specs.Drive.{firstEvent, laterEvent, drawnDrive};
-ghost use Rattle.draw.specs.Loaded.{driveBytes};
+ghost use Rattle.draw.specs.Drive.{firstEvent, laterEvent, drawnDrive, driveBytes};
 
 // Puts a number of two bytes, the low byte first.
 fn put_word(output: &mut [u8], at: usize, n: u16) -> usize
@@ -75,7 +74,7 @@ fn put_later(output: &mut [u8], at: usize, inputs: &[u8], start: u32, n: u32) ->
 }
 
 // Puts the drive's section: the count of its events, and the events.
-pub(crate) fn put_drive(output: &mut [u8], at: usize, inputs: &[u8], seed: u32, n: u32) -> usize
+pub fn put_drive(output: &mut [u8], at: usize, inputs: &[u8], seed: u32, n: u32) -> usize
     requires { ⌜ (length (now inputs) + n ≤ 1024) × (0 < n → 0 < length (now inputs)) ⌝ }
     ensures { λ r. ⌜ Prints (driveBytes (drawnDrive (now (inputs .entry)) seed n)) (now (output .entry)) at (now (output .exit)) r ⌝ }
 {

@@ -11,7 +11,7 @@ ghost use Rattle.format.specs.Accepted.{Known};
 ghost use Rattle.network.specs.Run.{RunLeaves};
 ghost use Rattle.convert.specs.Conversion.{Converts};
 ghost use Rattle.pulses.specs.Reporting.{Reports};
-ghost use Rattle.draw.specs.Loading.{Loads};
+ghost use Rattle.loaded.specs.Loading.{Loads};
 
 // Checks a sheet of an edition, strictly or not: the refusals of its bytes, and then its zero-delay loops.
 fn check_in(strict: bool, edition: Edition, bytes: &[u8]) -> Answer
@@ -181,7 +181,7 @@ fn load_in(edition: Edition, sheet: &[u8], seed: u32, n: u32, output: &mut [u8])
     let Answer::Ran(_) = checked else {
         return checked;
     };
-    draw::load(edition, sheet, seed, n, output)
+    loaded::load(edition, sheet, seed, n, output)
 }
 
 // Fills the drive of a sheet from a seed, replacing its events: one at tick 0 for each input, and then n more. Refusals 2 to 14, 16 to 18, 26 and

@@ -8,7 +8,7 @@ ghost use Rattle.sheet.specs.Refusal.{checked, checkedStrictly};
 ghost use Rattle.network.specs.Run.{RunLeaves};
 ghost use Rattle.convert.specs.Conversion.{Converts};
 ghost use Rattle.pulses.specs.Reporting.{Reports};
-ghost use Rattle.draw.specs.Loading.{Loads};
+ghost use Rattle.loaded.specs.Loading.{Loads};
 ghost use Rattle.sentence.specs.Describing.{Describes};
 
 // An answer's three numbers: number (0 for a finished call), place, count.

@@ -3,7 +3,7 @@ use borrow.Author.Needs.{needs}
 use mathlib.Core.Path.{sym, subst}
 use Rattle.sheet.specs.Outcome.{outcomeOf}
 use Rattle.format.specs.Accepted.{Known, the-second}
-use Rattle.draw.specs.Loading.{Loads}
+use Rattle.loaded.specs.Loading.{Loads}
 use Rattle.timing.proofs.load_2.Statement.{statement}
 use Rattle.timing.proofs.load_2.Tie as tie
 

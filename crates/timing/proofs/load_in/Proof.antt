@@ -3,7 +3,7 @@ use borrow.Author.Needs.{needs}
 use mathlib.Core.Bool.{false}
 use Rattle.sheet.specs.Refusal.{rows, checkedBy}
 use Rattle.sheet.proofs.Rows.{passed}
-use Rattle.draw.proofs.Answers.{not-accepted}
+use Rattle.loaded.proofs.Answers.{not-accepted}
 use Rattle.timing.proofs.load_in.Statement.{statement}
 use Rattle.timing.proofs.load_in.Tie as tie
 

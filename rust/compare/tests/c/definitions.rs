@@ -52,7 +52,7 @@ pub fn refusals() -> Vec<Named> {
     let of_a_conversion = constants("convert/specs/Conversion.antt");
     let of_an_output = constants("format/specs/Made.antt");
     let of_a_report = constants("pulses/specs/Reporting.antt");
-    let of_a_load = constants("draw/specs/Loading.antt");
+    let of_a_load = constants("loaded/specs/Loading.antt");
     [
         of_a_sheet,
         of_a_run,

@@ -1,6 +1,6 @@
 -- `draw::drawing::draw_event` meets its contract: three draws, one after the other. Assumes nothing.
 use borrow.Author.Needs.{needs}
-use mathlib.Core.Path.{_≡_, ap, _∙_}
+use mathlib.Core.Path.{ap, _∙_}
 use native.Mathlib.Nat.{mod-lt}
 use Prim.Native.Nat.{_+_, _%_}
 use lib.ListN.{length, getD}

@@ -3,7 +3,7 @@ use lib.ListN.{length, getD, take, drop}
 use lib.Seq.{take-at}
 use mathlib.Core.List.{List, _++_}
 use mathlib.Core.Logic.{_↔_}
-use mathlib.Core.Path.{_≡_, refl, sym, ap, ap₂, _∙_, subst, subst₂}
+use mathlib.Core.Path.{_≡_, refl, sym, ap, _∙_, subst}
 use native.Mathlib.Omega.{arith}
 use Prim.Native.Nat.{ℕ, suc, _+_, _*_, _%_, _^_, _<_, _≤_}
 use Rattle.sheet.specs.declared.Edition.{Edition}
@@ -21,16 +21,16 @@ use Rattle.format.specs.Made.{outputShort, sheetMade}
 use Rattle.format.proofs.Accepted.{accepted, conversely, strictly-conversely}
 use Rattle.format.proofs.FirstMet.{first-met, first-refused}
 use Rattle.format.proofs.Made.{refused-before, refused-short, made-whole, made-same, success}
-use Rattle.draw.specs.Draw.{drawStep, advanced, resultOf, stateAfter, draw}
-use Rattle.draw.specs.Drive.{sheetInputs, firstEvent, laterEvent, drawnDrive}
-use Rattle.draw.specs.Loaded.{driveBytes, inputsIn, loaded, needed, withDrive}
-use Rattle.draw.specs.Loading.{drawnTooMany, loadRows, Loads}
-use Rattle.draw.proofs.Answers.{TooMany, drawn-refused, drawn-passed, passing, own-refused, own-passed, both-passed-by}
-use Rattle.draw.proofs.Draws.{state-is, state-of, result-small}
-use Rattle.draw.proofs.Drive.{drawn-length, first-at, later-at, tick-below, ticks-rise}
-use Rattle.draw.proofs.Inputs.{same-inputs}
-use Rattle.draw.proofs.Length.{loaded-length}
-use Rattle.draw.proofs.Written.{loaded-is, loaded-sheet, loaded-bytes, loaded-strictly, loaded-again}
+use Rattle.draw.specs.Draw.{resultOf, stateAfter, draw}
+use Rattle.draw.specs.Drive.{laterEvent, drawnDrive, driveBytes}
+use Rattle.loaded.specs.Loaded.{inputsIn, loaded, needed, withDrive}
+use Rattle.loaded.specs.Loading.{drawnTooMany, loadRows, Loads}
+use Rattle.loaded.proofs.Answers.{TooMany, drawn-refused, drawn-passed, passing, own-refused, own-passed, both-passed-by}
+use Rattle.draw.proofs.Draws.{state-is, result-small}
+use Rattle.draw.proofs.Drive.{drawn-length, first-at, later-at}
+use Rattle.loaded.proofs.Inputs.{same-inputs}
+use Rattle.loaded.proofs.Length.{loaded-length}
+use Rattle.loaded.proofs.Written.{loaded-is, loaded-sheet, loaded-bytes, loaded-strictly, loaded-again}
 
 -- (a) A draw's state is the remainder of the seed and as many steps, and its result is of that state, at every draw.
 pub drawn-state : (seed k : ℕ) → stateAfter seed (suc k) ≡ (seed + suc k * 2654435769) % 2 ^ 32

@@ -1,5 +1,4 @@
--- `draw::finding::find_inputs` meets its contract. The loop's invariant: the inputs among the nodes passed are put. Assumes nothing.
-use borrow.Author.Needs.{needs}
+-- `loaded::finding::find_inputs` meets its contract. The loop's invariant: the inputs among the nodes passed are put. Assumes nothing.
 use mathlib.Core.Path.{_≡_, refl, _∙_, subst}
 use native.Mathlib.Numerals.{add-one}
 use native.Mathlib.Omega.{arith}
@@ -11,8 +10,8 @@ use Rattle.sheet.specs.Layout.{nodeAt}
 use Rattle.sheet.specs.Limits.{inputByte}
 use Rattle.lent.specs.Lent.{Prints}
 use Rattle.lent.proofs.Putting.{prints-none, prints-then}
-use Rattle.draw.proofs.finding.find_inputs.Statement.{statement}
-use Rattle.draw.proofs.finding.find_inputs.Tie as tie
+use Rattle.loaded.proofs.finding.find_inputs.Statement.{statement}
+use Rattle.loaded.proofs.finding.find_inputs.Tie as tie
 
 abbrev Inv-loop : tie.InvT-loop
 Inv-loop found₀ sheet nodes count₀ v₀ found count v =

@@ -4,11 +4,11 @@ use mathlib.Core.List.{List}
 use Prim.Native.Nat.{ℕ, _<_, _≤_}
 use Rattle.sheet.specs.declared.Event.{Event}
 use Rattle.sheet.specs.Limits.{mostEvents}
-use Rattle.sheet.specs.Loop.{Feeds, Chain, link, more, OnLoop}
+use Rattle.sheet.specs.Loop.{Feeds, Chain, link, more}
 use Rattle.sheet.specs.Refusal.{key}
 use Rattle.sheet.specs.Sheet.{Sheet, noEvent}
 use Rattle.format.specs.Accepted.{Driven, Input, SoundEvent, Accepted}
-use Rattle.draw.specs.Loaded.{withDrive}
+use Rattle.loaded.specs.Loaded.{withDrive}
 
 module _ (S : Sheet) (drive : List Event) where
   abbrev W : Sheet

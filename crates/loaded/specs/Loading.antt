@@ -9,7 +9,7 @@ use Rattle.sheet.specs.Limits.{mostEvents}
 use Rattle.sheet.specs.Outcome.{Outcome}
 use Rattle.sheet.specs.Refusal.{Row, _at_when_, rows, first}
 use Rattle.format.specs.Made.{Makes, sheetMade}
-use Rattle.draw.specs.Loaded.{inputsIn, loaded}
+use Rattle.loaded.specs.Loaded.{inputsIn, loaded}
 
 -- 26 inputs plus n above 1,024, or n above 0 with no input
 abbrev pub drawnTooMany : ℕ

@@ -3,14 +3,14 @@
 use lib.ListN.{length, getD, take, drop, length-append}
 use lib.Seq.{take-at, drop-at}
 use mathlib.Core.List.{List, _++_, append-assoc}
-use mathlib.Core.Path.{_≡_, refl, sym, ap, _∙_, subst}
+use mathlib.Core.Path.{_≡_, refl, sym, ap, _∙_}
 use native.Mathlib.Decide.{decLt}
 use native.Mathlib.Nat.{mod-lt}
 use native.Mathlib.Omega.{arith}
 use Prim.Native.Nat.{ℕ, suc, _+_, _-_, _*_, _<_, _≤_}
 use Rattle.sheet.specs.declared.Edition.{Edition}
 use Rattle.sheet.specs.declared.Event.{Event}
-use Rattle.sheet.specs.Layout.{eventSize, drivePlace, eventsCounted, watchedPlace, sheetOf}
+use Rattle.sheet.specs.Layout.{eventSize, drivePlace, watchedPlace, sheetOf}
 use Rattle.sheet.specs.Limits.{mostEvents}
 use Rattle.sheet.specs.Sheet.{Sheet, noEvent}
 use Rattle.sheet.proofs.Parts.{node-count, module-count, event-count}
@@ -20,12 +20,12 @@ use Rattle.format.proofs.AllBytes.{length-allBytes}
 use Rattle.format.proofs.EncodeRead.{reading-encoded}
 use Rattle.format.proofs.EncodeRecord.{module-length}
 use Rattle.network.proofs.Written.{read-back, written-bytes, written-strictly}
 use Rattle.draw.specs.Draw.{draw}
-use Rattle.draw.specs.Drive.{sheetInputs, inputDraw, firstEvent, laterEvent, drawnDrive}
-use Rattle.draw.specs.Loaded.{driveBytes, withSection, inputsIn, loaded, withDrive}
+use Rattle.draw.specs.Drive.{sheetInputs, inputDraw, firstEvent, laterEvent, drawnDrive, driveBytes}
+use Rattle.loaded.specs.Loaded.{withSection, inputsIn, loaded, withDrive}
 use Rattle.draw.proofs.Drive.{tick-below, drawn-length, first-at, rest-at, drawn-rises}
-use Rattle.draw.proofs.Inputs.{input-at, input-place, few-inputs, inputs-rise}
-use Rattle.draw.proofs.WithDrive.{input-back, accepted-with}
+use Rattle.loaded.proofs.Inputs.{input-at, input-place, inputs-rise}
+use Rattle.loaded.proofs.WithDrive.{input-back, accepted-with}
 
 -- what stands before the drive's section, and after it
 front : Edition → Sheet → List ℕ
@@ -116,7 +116,7 @@ module _ {e : Edition} (known : Known e) (s : List ℕ) (ok : AcceptedIn e s) wh
     pub sheet-accepted : Accepted L
     sheet-accepted =
         accepted-with S drawn (ok .sheet) (omega (arith, few, drawn-length inputs seed n)) sound
-        (λ a b l h. drawn-rises inputs seed n (inputs-rise S) small some a b l h noEvent)
+        (λ a b l h. drawn-rises inputs seed n (λ i j l h. inputs-rise S i j l h 0) small some a b l h noEvent)
 
     started : (v : ℕ) → Input L v → DrivenAtStart L v
     started v i =

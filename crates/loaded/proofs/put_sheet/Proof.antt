@@ -1,4 +1,4 @@
--- `draw::put_sheet` meets its contract: the bytes before the drive's section, the section, the bytes after it. Assumes nothing.
+-- `loaded::put_sheet` meets its contract: the bytes before the drive's section, the section, the bytes after it. Assumes nothing.
 use borrow.Author.Needs.{needs}
 use mathlib.Core.Path.{_≡_, sym, subst}
 use native.Mathlib.Omega.{arith}
@@ -7,8 +7,8 @@ use lib.ListN.{length, take, drop, length-drop}
 use lib.Seq.{take-all, length-take-le}
 use Rattle.lent.specs.Lent.{Prints}
 use Rattle.lent.proofs.Putting.{prints-then}
-use Rattle.draw.proofs.put_sheet.Statement.{statement}
-use Rattle.draw.proofs.put_sheet.Tie as tie
+use Rattle.loaded.proofs.put_sheet.Statement.{statement}
+use Rattle.loaded.proofs.put_sheet.Tie as tie
 
 slice-aggregate : tie.Need-slice-aggregate-put-all
 slice-aggregate c = let a = c .before .before .before .before .before .args in sym (length-take-le (a .drive) (a .sheet .now) (c .before .before .before .before .before .pre .0))

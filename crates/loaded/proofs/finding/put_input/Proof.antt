@@ -1,13 +1,12 @@
--- `draw::finding::put_input` meets its contract: the node is an input, or it is not. Assumes nothing.
+-- `loaded::finding::put_input` meets its contract: the node is an input, or it is not. Assumes nothing.
 use borrow.Author.Needs.{needs}
 use borrow.Author.Tests.{eq-eqb, ne-eqb}
 use mathlib.Core.Path.{sym, _∙_}
-use native.Mathlib.Omega.{arith}
 use Rattle.sheet.specs.Layout.{nodeAt}
 use Rattle.sheet.specs.Limits.{inputByte}
 use Rattle.lent.proofs.Putting.{prints-none}
-use Rattle.draw.proofs.finding.put_input.Statement.{statement}
-use Rattle.draw.proofs.finding.put_input.Tie as tie
+use Rattle.loaded.proofs.finding.put_input.Statement.{statement}
+use Rattle.loaded.proofs.finding.put_input.Tie as tie
 
 returns : tie.Need-returns
 returns c =

@@ -11,11 +11,11 @@ use Rattle.sheet.proofs.Parts.{node-count}
 use Rattle.format.specs.Accepted.{Known, AcceptedIn}
 use Rattle.format.proofs.Accepted.{few-bytes, conversely}
 use Rattle.format.proofs.Theorems.{longest}
-use Rattle.draw.specs.Drive.{drawnDrive}
-use Rattle.draw.specs.Loaded.{driveBytes, withSection, inputsIn, loaded, needed}
+use Rattle.draw.specs.Drive.{drawnDrive, driveBytes}
+use Rattle.loaded.specs.Loaded.{withSection, inputsIn, loaded, needed}
 use Rattle.draw.proofs.Drive.{drawn-length}
-use Rattle.draw.proofs.Inputs.{few-inputs}
-use Rattle.draw.proofs.Written.{drive-length}
+use Rattle.loaded.proofs.Inputs.{few-inputs}
+use Rattle.loaded.proofs.Written.{drive-length}
 
 -- between two places of a list
 pub section-length : (s : List ℕ) (from to : ℕ) (drive : List Event) → from ≤ length s → length (withSection s from to drive) ≡ from + 2 + 6 * length drive + (length s - to)

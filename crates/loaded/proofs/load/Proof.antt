@@ -1,7 +1,6 @@
--- `draw::load` meets its contract: the places and the inputs are found, and then the sheet is loaded for them. Assumes nothing.
+-- `loaded::load` meets its contract: the places and the inputs are found, and then the sheet is loaded for them. Assumes nothing.
 use borrow.Author.Needs.{needs}
-use mathlib.Core.List.{List}
-use mathlib.Core.Path.{_≡_, refl, sym, ap, _∙_, subst}
+use mathlib.Core.Path.{_≡_, sym, ap, subst}
 use native.Mathlib.Omega.{arith}
 use Prim.Native.Nat.{ℕ, _≤_}
 use lib.Dec.{eqb}
@@ -13,12 +12,12 @@ use Rattle.sheet.specs.Limits.{inputByte}
 use Rattle.format.specs.Accepted.{AcceptedIn}
 use Rattle.format.proofs.Accepted.{accepted}
 use Rattle.lent.specs.Lent.{Prints}
-use Rattle.draw.specs.Loaded.{inputsIn}
-use Rattle.draw.proofs.Answers.{by-parts}
-use Rattle.draw.proofs.Found.{count-below, inputs-found}
-use Rattle.draw.proofs.Length.{drive-within, watched-within, short-sheet, few-nodes, inputs-below}
-use Rattle.draw.proofs.load.Statement.{statement}
-use Rattle.draw.proofs.load.Tie as tie
+use Rattle.loaded.specs.Loaded.{inputsIn}
+use Rattle.loaded.proofs.Answers.{by-parts}
+use Rattle.loaded.proofs.Found.{count-below, inputs-found}
+use Rattle.loaded.proofs.Length.{drive-within, watched-within, short-sheet, few-nodes, inputs-below}
+use Rattle.loaded.proofs.load.Statement.{statement}
+use Rattle.loaded.proofs.load.Tie as tie
 
 -- the sheet is accepted
 ok : (c : tie.After-find-inputs) → AcceptedIn (c .before .before .before .before .before .before .args .edition) (c .before .before .before .before .before .before .args .sheet .now)

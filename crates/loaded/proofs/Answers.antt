@@ -18,9 +18,9 @@ use Rattle.sheet.proofs.Rows.{passed-append, refused-append, both-passed, finis
 use Rattle.sheet.proofs.Tests.{Tells, fails, decided, at-most, tells-and, tells-eq, tells-lt, tells-or}
 use Rattle.format.specs.Made.{Makes, sheetMade}
 use Rattle.format.proofs.Made.{refused-before}
 use Rattle.draw.specs.Drive.{drawnDrive}
-use Rattle.draw.specs.Loaded.{withSection, inputsIn, loaded}
-use Rattle.draw.specs.Loading.{drawnTooMany, tooMany, drawnRows, loadRows, Loads}
+use Rattle.loaded.specs.Loaded.{withSection, inputsIn, loaded}
+use Rattle.loaded.specs.Loading.{drawnTooMany, tooMany, drawnRows, loadRows, Loads}
 
 -- inputs plus n above 1,024, or n above 0 with no input
 abbrev pub TooMany : ℕ → ℕ → Type 0

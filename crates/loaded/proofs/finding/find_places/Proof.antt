@@ -1,4 +1,4 @@
--- `draw::finding::find_places` meets its contract: a size of one byte and counts of two. Assumes nothing.
+-- `loaded::finding::find_places` meets its contract: a size of one byte and counts of two. Assumes nothing.
 use borrow.Author.Needs.{needs}
 use mathlib.Core.Path.{_≡_, ap, ap₂, _∙_}
 use native.Mathlib.Nat.{mul-le-mul}
@@ -6,8 +6,8 @@ use native.Mathlib.Omega.{arith}
 use Prim.Native.Nat.{_+_, _*_, _≤_}
 use Rattle.sheet.specs.Bytes.{wordAt}
 use Rattle.sheet.specs.Layout.{modulesCounted, drivePlace, eventsCounted}
-use Rattle.draw.proofs.finding.find_places.Statement.{statement}
-use Rattle.draw.proofs.finding.find_places.Tie as tie
+use Rattle.loaded.proofs.finding.find_places.Statement.{statement}
+use Rattle.loaded.proofs.finding.find_places.Tie as tie
 
 within : (c : tie.After-struct-known) → c .before .before .before .before .args .edition .size * c .before .word2 .result ≤ 255 * 65535
 within c = mul-le-mul {n₂ = 255} {m₂ = 65535} (omega arith) (omega arith)

@@ -1,9 +1,9 @@
 -- The inputs that are found by their bytes and put into an array are the sheet's. Assumes nothing.
 use lib.Dec.{eqb}
-use lib.ListN.{length, take, drop, replicate, length-replicate}
+use lib.ListN.{length, take, drop}
 use lib.Seq.{take-at}
 use mathlib.Core.List.{List, [], _++_}
-use mathlib.Core.Path.{_≡_, refl, sym, ap, _∙_, subst}
+use mathlib.Core.Path.{_≡_, refl, sym, ap, _∙_}
 use native.Mathlib.Omega.{arith}
 use Prim.Native.Nat.{ℕ, _≤_}
 use Rattle.sheet.specs.declared.Edition.{Edition}
@@ -16,8 +16,8 @@ use Rattle.sheet.proofs.Parts.{node-count, node-byte}
 use Rattle.format.specs.Accepted.{AcceptedIn}
 use Rattle.lent.specs.Lent.{Prints}
 use Rattle.lent.proofs.Putting.{none-printed, whole}
-use Rattle.draw.specs.Loaded.{inputsIn}
-use Rattle.draw.proofs.Inputs.{inputs-by-bytes}
+use Rattle.loaded.specs.Loaded.{inputsIn}
+use Rattle.loaded.proofs.Inputs.{inputs-by-bytes}
 
 module _ (e : Edition) (s : List ℕ) (ok : AcceptedIn e s) where
   abbrev found : List ℕ

@@ -1,12 +1,11 @@
--- `draw::drawn_answer` meets its contract: nothing to draw, no input, too many events, or none of these. Assumes nothing.
+-- `loaded::drawn_answer` meets its contract: nothing to draw, no input, too many events, or none of these. Assumes nothing.
 use borrow.Author.Needs.{needs}
 use mathlib.Core.Logic.{_⊎_, inl, inr, ⊎-elim}
-use mathlib.Core.Path.{_≡_, sym}
+use mathlib.Core.Path.{sym}
 use native.Mathlib.Omega.{arith}
-use Prim.Native.Nat.{_+_, _<_}
-use Rattle.draw.proofs.Answers.{TooMany, drawn-refused, drawn-passed}
-use Rattle.draw.proofs.drawn_answer.Statement.{statement}
-use Rattle.draw.proofs.drawn_answer.Tie as tie
+use Rattle.loaded.proofs.Answers.{drawn-refused, drawn-passed}
+use Rattle.loaded.proofs.drawn_answer.Statement.{statement}
+use Rattle.loaded.proofs.drawn_answer.Tie as tie
 
 returns : tie.Need-returns
 returns c =

@@ -6,12 +6,7 @@ use Rattle.sheet.specs.declared.Edition.{Edition}
 use Rattle.sheet.specs.declared.Event.{Event}
 use Rattle.sheet.specs.Layout.{eventSize, drivePlace, eventsCounted, watchedPlace, sheetOf}
 use Rattle.sheet.specs.Sheet.{Sheet}
-use Rattle.format.specs.Encode.{wordBytes, eventBytes, allBytes}
-use Rattle.draw.specs.Drive.{sheetInputs, drawnDrive}
-
--- a drive's section: the count of its events, and their records
-abbrev pub driveBytes : List Event → List ℕ
-driveBytes drive = wordBytes (length drive) ++ allBytes eventBytes drive
+use Rattle.draw.specs.Drive.{sheetInputs, drawnDrive, driveBytes}
 
 -- what stands up to a place, a drive's section, and what stands from a later place on
 abbrev pub withSection : List ℕ → ℕ → ℕ → List Event → List ℕ

@@ -1,4 +1,4 @@
--- `draw::load_for` meets its contract: the answer is worked out, and then, if it is a success, the sheet is put. Assumes nothing.
+-- `loaded::load_for` meets its contract: the answer is worked out, and then, if it is a success, the sheet is put. Assumes nothing.
 use borrow.Author.Needs.{needs}
 use mathlib.Core.List.{List, []}
 use mathlib.Core.Path.{_≡_, sym, ap, _∙_, subst}
@@ -11,14 +11,14 @@ use Rattle.sheet.specs.Refusal.{first}
 use Rattle.format.specs.Made.{madeAnswer, outputAfter, Makes, sheetMade}
 use Rattle.format.proofs.Made.{answers, success}
 use Rattle.lent.proofs.Putting.{none-printed, whole}
 use Rattle.draw.specs.Drive.{drawnDrive}
-use Rattle.draw.specs.Loaded.{withSection}
-use Rattle.draw.specs.Loading.{drawnRows}
-use Rattle.draw.proofs.Answers.{few-drawn, passing, either}
+use Rattle.loaded.specs.Loaded.{withSection}
+use Rattle.loaded.specs.Loading.{drawnRows}
+use Rattle.loaded.proofs.Answers.{few-drawn, passing, either}
 use Rattle.draw.proofs.Drive.{drawn-length}
-use Rattle.draw.proofs.Length.{section-length}
-use Rattle.draw.proofs.load_for.Statement.{statement}
-use Rattle.draw.proofs.load_for.Tie as tie
+use Rattle.loaded.proofs.Length.{section-length}
+use Rattle.loaded.proofs.load_for.Statement.{statement}
+use Rattle.loaded.proofs.load_for.Tie as tie
 
 -- what is refused before the output is looked at, and what is to be written
 abbrev before : (c : tie.After-or-else) → Outcome
