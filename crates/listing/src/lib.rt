@@ -21,7 +21,7 @@ use sheet::{NODES, PENDING_LIMIT, WATCHED};
 pub const NOT_SHOWN: u8 = 255;
 
 // After a tick's listing: no room for its records; written, with the count, but too many changes pending; or written.
-#[derive(Drop)]
+#[derive(Clone, Copy)]
 pub enum Step {
     Full,
     Crowded(usize),

@@ -8,7 +8,7 @@ ghost use Rattle.listing.specs.Record.{record_of, put, written, end_written};
 pub(crate) const RECORD_SIZE: usize = 10;
 
 // A record of the listing.
-#[derive(Drop)]
+#[derive(Clone, Copy)]
 pub struct Listed {
     pub tick: u32,
     pub node: u8,

@@ -12,14 +12,14 @@ const PLACES: usize = PENDING_LIMIT + (MOST_MODULES as usize);
 pub type Store = [u32; PLACES];
 
 // How far the changes are passed at a tick: `kept` of the first `at` stay, and stand first.
-#[derive(Drop)]
+#[derive(Clone, Copy)]
 pub struct Scan {
     pub kept: usize,
     pub at: usize,
 }
 
 // What is met next: the position and value of a change that is due, or one that stays, and where to go on; or the end, and how many stay.
-#[derive(Drop)]
+#[derive(Clone, Copy)]
 pub enum Met {
     Due(usize, u8, Scan),
     Stays(Scan),

@@ -7,7 +7,7 @@ ghost use Rattle.read_drive.specs.Told.{EventTold};
 use sheet::{Event, EventRead, LAST_TICK, LAST_VALUE, NODES};
 
 // An event that is not refused, or a refusal's number and place.
-#[derive(Drop)]
+#[derive(Clone, Copy)]
 pub(crate) enum EventChecked {
     Good(Event),
     Refused(u32, u32),

@@ -7,7 +7,7 @@ ghost use Rattle.read_nodes.specs.Told.{CountTold};
 use sheet::{Answer, CountRead};
 
 // The refusal met in a count, Ran(0) without one, and the count, 0 where one is met.
-#[derive(Drop)]
+#[derive(Clone, Copy)]
 pub struct CountChecked {
     pub answer: Answer,
     pub count: u16,

@@ -11,7 +11,7 @@ use crate::count::count_refusal;
 use sheet::{Answer, COUNT_SIZE, INPUT, LEAST_NODES, MOST_NODES, NODES, NodeRead};
 
 // A node or watched node that is not refused, or a refusal's number and place.
-#[derive(Drop)]
+#[derive(Clone, Copy)]
 pub(crate) enum NodeChecked {
     Good(u8),
     Refused(u32, u32),

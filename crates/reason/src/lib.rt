@@ -8,7 +8,7 @@ ghost use Rattle.lent.specs.Lent.{Prints};
 use lent::{put_all, put_decimal};
 
 // The sort of a place: what it counts.
-#[derive(Drop)]
+#[derive(Clone, Copy)]
 pub enum Sort {
     Byte,
     Node,

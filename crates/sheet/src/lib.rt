@@ -62,7 +62,7 @@ const FIRST_SIZE: u8 = 7;
 const SECOND_SIZE: u8 = 8;
 
 // What tells editions of the sheet apart: a module record's size in bytes, and the greatest kind.
-#[derive(Drop)]
+#[derive(Clone, Copy)]
 pub struct Edition {
     pub size: u8,
     pub greatest: u8,
@@ -88,7 +88,7 @@ pub fn second_edition() -> Edition
 }
 
 // What a call answers.
-#[derive(Drop)]
+#[derive(Clone, Copy)]
 pub enum Answer {
     // A finished call, with its count.
     Ran(u32),
@@ -127,7 +127,7 @@ pub fn horizon_answer(horizon: u32) -> Answer
 }
 
 // A module's record.
-#[derive(Drop)]
+#[derive(Clone, Copy)]
 pub struct Module {
     pub kind: u8,
     pub parameter: u8,
@@ -139,7 +139,7 @@ pub struct Module {
 }
 
 // A drive event's record.
-#[derive(Drop)]
+#[derive(Clone, Copy)]
 pub struct Event {
     pub tick: u32,
     pub node: u8,
@@ -171,25 +171,25 @@ pub fn wide(x: u8) -> usize
 }
 
 // What stands at a place: the whole of a count or record, or bytes that end inside it.
-#[derive(Drop)]
+#[derive(Clone, Copy)]
 pub enum CountRead {
     Whole(u16),
     Short,
 }
 
-#[derive(Drop)]
+#[derive(Clone, Copy)]
 pub enum NodeRead {
     Whole(u8),
     Short,
 }
 
-#[derive(Drop)]
+#[derive(Clone, Copy)]
 pub enum ModuleRead {
     Whole(Module),
     Short,
 }
 
-#[derive(Drop)]
+#[derive(Clone, Copy)]
 pub enum EventRead {
     Whole(Event),
     Short,
@@ -320,7 +320,7 @@ pub fn event_at(s: &[u8], p: u32) -> EventRead
 }
 
 // How many records each section has.
-#[derive(Drop)]
+#[derive(Clone, Copy)]
 pub struct Counts {
     pub nodes: u16,
     pub modules: u16,

@@ -35,7 +35,7 @@ pub const SHARED: u8 = 1;
 pub const COUNTS: usize = 4 * NODES;
 
 // How many modules there are, how many of them are delayed, whether a node has several drivers, and how many events there are.
-#[derive(Drop)]
+#[derive(Clone, Copy)]
 pub struct Shape {
     pub modules: usize,
     pub delayed: usize,
@@ -44,7 +44,7 @@ pub struct Shape {
 }
 
 // What is carried from tick to tick: the first event that is not before the next one, and how many changes are pending.
-#[derive(Drop)]
+#[derive(Clone, Copy)]
 pub struct Carried {
     pub next: u16,
     pub pending: usize,
