@@ -33,6 +33,7 @@ module _ (c : Cells) (t : ℕ) where
 
   next_changed : (vs : List ℕ) (w end : ℕ) → Memᴰ w vs → changes c w t ≡ true → next_of (records_at c t vs) w end ≡ t
   unfolding records_at next_of
+  next_changed [] w end m changed = absurd (Memᴰ.not-nil m)
   next_changed (v ∷ vs) w end m changed = at (changes c v t) refl (Memᴰ.cases_cons m) (λ m. next_changed vs w end m changed)
     where
       same : (w ≡ v) ⊎ Memᴰ w vs → (Memᴰ w vs → next_of (records_at c t vs) w end ≡ t) → next_of (record_of c t v ∷ records_at c t vs) w end ≡ t

@@ -90,7 +90,7 @@ module _ (e : Edition) (s : List ℕ) where
           (ap (λ q. first (rows_at q)) (sym reached.place)
           ∙ simp there.0
           (ap (λ x. first (record_rows e.greatest (nodes_counted s) p x)) (sym there.1)
-          ∙ simp (← n)))
+          ∙ ap (λ k. first (record_rows e.greatest k p r)) (sym n)))
 
       -- one module more
       pub one_more_read : m < count → r.output < 256 → e.size < 256 → first (module_rows e s m) ≡ finished 0
