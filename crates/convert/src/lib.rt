@@ -1,4 +1,6 @@
 // A sheet of one edition in the other: each module record gains a third input of 0 or loses it, and all other bytes stay in their order.
+#![tactic(auto)]
+
 ghost use Rattle.std.specs.Prelude.{◌≡◌, ◌+◌, ◌-◌, ◌*◌, ◌≤◌, length};
 ghost use Rattle.sheet.specs.Enumerate.{each};
 ghost use Rattle.sheet.specs.Layout.{modules_counted};

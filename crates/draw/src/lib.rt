@@ -1,4 +1,6 @@
 // Numbers that are drawn from a seed, and the section of a drive that is made of them.
+#![tactic(auto)]
+
 mod drawing;
 mod putting;
 

@@ -1,5 +1,7 @@
 // The sheet's format: what an accepted sheet is, and that reading and encoding are inverse. Definitions and theorems, but for the answer to
 // writing a sheet.
+#![tactic(auto)]
+
 ghost use Rattle.std.specs.Prelude.{List, ◌≡◌, ℕ, ◌<◌, length};
 ghost use Rattle.sheet.specs.Outcome.{outcome_of};
 ghost use Rattle.format.specs.Made.{written_answer, sheet_made};

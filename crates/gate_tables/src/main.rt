@@ -1,4 +1,6 @@
 // Prints the source of the gates' constant tables, crates/level/src/tables.rt, each entry worked out from its gate's rule.
+#![tactic(auto)]
+
 mod line;
 mod rule;
 

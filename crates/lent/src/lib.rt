@@ -1,4 +1,6 @@
 // A lent text: bytes and numbers, each put after what is printed so far.
+#![tactic(auto)]
+
 ghost use Rattle.std.specs.Prelude.{[], ◌∷◌};
 ghost use Rattle.lent.specs.Decimal.{decimal};
 ghost use Rattle.lent.specs.Lent.{Prints};

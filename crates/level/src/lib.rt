@@ -1,4 +1,6 @@
 // The four values of a cell, and the gates' rules as constant tables over them.
+#![tactic(auto)]
+
 mod tables;
 
 ghost use Rattle.std.specs.Prelude.{◌≡◌, List, [], ◌∷◌, ℕ, ◌%◌, ◌<◌, take};

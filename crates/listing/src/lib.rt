@@ -1,4 +1,6 @@
 // The listing's part of a tick: 19 before any record is written, 20 after they are.
+#![tactic(auto)]
+
 mod ends;
 mod fresh;
 mod record;

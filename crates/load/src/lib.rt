@@ -1,4 +1,6 @@
 // The arrays of a run, filled once before tick 0 from what a sheet holds: the ticks work on lent bytes and numbers.
+#![tactic(auto)]
+
 ghost use Rattle.std.specs.Prelude.{◌≡◌, ℕ, ◌<◌, ◌≤◌, length, get_or, take};
 ghost use Rattle.sheet.specs.Limits.{most_nodes, input_byte, most_modules, most_events};
 ghost use Rattle.sheet.specs.Sheet.{Sheet};

@@ -1,4 +1,6 @@
 // A sheet with a drive that is drawn from a seed in place of its own.
+#![tactic(auto)]
+
 mod finding;
 
 ghost use Rattle.std.specs.Prelude.{◌≡◌, ◌+◌, ◌-◌, ◌*◌, ◌<◌, ◌≤◌, min, length};

@@ -1,4 +1,6 @@
 // The pending changes: how they are laid out is known in this crate alone.
+#![tactic(auto)]
+
 ghost use Rattle.std.specs.Prelude.{List, ◌≡◌, ℕ, ◌+◌, ◌<◌, ◌^◌};
 ghost use Rattle.model.specs.Change.{Change};
 ghost use Rattle.pending.specs.Kept.{arrangement, kept_in, pending_room, Sized};

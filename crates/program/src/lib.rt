@@ -1,4 +1,6 @@
 // The program as a function of its input: the horizon and the sheet are run, and the answer and its records printed.
+#![tactic(auto)]
+
 ghost use Rattle.std.specs.Prelude.{◌≡◌};
 ghost use Rattle.lent.specs.Lent.{Printed};
 ghost use Rattle.program.specs.Program.{horizon_in, sheet_in, listing_of, program_text};

@@ -1,5 +1,7 @@
 // The report of pulses that are shorter than a width. It is made from a whole listing, whose records have both ends of each stretch: one
 // pass counts the pulses, and one writes them.
+#![tactic(auto)]
+
 ghost use Rattle.std.specs.Prelude.{List, ◌≡◌, ◌-◌, length};
 ghost use Rattle.sheet.specs.Outcome.{finished, outcome_of};
 ghost use Rattle.format.specs.Encode.{long_bytes};

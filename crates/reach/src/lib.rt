@@ -1,4 +1,6 @@
 // Zero-delay links between nodes, which node leads to which over them, and the least node on a zero-delay loop.
+#![tactic(auto)]
+
 ghost use Rattle.std.specs.Prelude.{false, ◌&&◌, ◌≡◌, ℕ, ◌<◌, ◌≤◌, min, eqb, length, get_or};
 ghost use Rattle.sheet.specs.Limits.{most_nodes, most_modules};
 ghost use Rattle.sheet.specs.Enumerate.{each};

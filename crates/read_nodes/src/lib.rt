@@ -1,4 +1,6 @@
 // The nodes and the watched nodes of a sheet, each record read once, and what every section begins with: its count.
+#![tactic(auto)]
+
 mod count;
 mod nodes;
 mod watched;

@@ -1,5 +1,7 @@
 // The sheet reader, and a sheet read through it: four sections in their order.
 // What stands in a section is read by functions over its bytes and place.
+#![tactic(auto)]
+
 mod sections;
 
 ghost use Rattle.std.specs.Prelude.{◌≡◌, ◌+◌, ◌<◌};

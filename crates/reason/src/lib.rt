@@ -1,4 +1,6 @@
 // What is wrong, in words: each refusal's phrase, and what its place counts.
+#![tactic(auto)]
+
 ghost use Rattle.std.specs.Prelude.{◌++◌, ◌≤◌};
 ghost use Rattle.lent.specs.Letters.{letters};
 ghost use Rattle.reason.specs.Phrases.{before};

@@ -1,4 +1,6 @@
 // The modules' records in working order: one thin pass over lent slices of records puts them there.
+#![tactic(auto)]
+
 ghost use Rattle.std.specs.Prelude.{◌≡◌, ◌≤◌, length, take};
 ghost use Rattle.sheet.specs.Limits.{most_modules};
 ghost use Rattle.records.specs.Records.{in_order_lem, first_in_order, Ordered};

@@ -1,4 +1,6 @@
 // The run of a sheet: it is read, its modules are put in working order and loaded, and then the ticks are taken in turn.
+#![tactic(auto)]
+
 mod accepted;
 mod ticks;
 

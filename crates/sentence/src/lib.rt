@@ -1,4 +1,6 @@
 // An answer as a sentence, for whoever has no table of the refusals at hand.
+#![tactic(auto)]
+
 ghost use Rattle.std.specs.Prelude.{◌≡◌, length};
 ghost use Rattle.sheet.specs.Outcome.{finished, refused, outcome_of};
 ghost use Rattle.sentence.specs.Sentence.{sentence};

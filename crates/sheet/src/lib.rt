@@ -1,4 +1,6 @@
 // The sheet's bytes: its records, and reading them.
+#![tactic(auto)]
+
 ghost use Rattle.std.specs.Prelude.{◌≡◌, ◌+◌, ◌<◌, ◌≤◌};
 ghost use Rattle.sheet.specs.Bytes.{byte_at, word_at, long_at};
 ghost use Rattle.sheet.specs.Layout.{first_edition, second_edition, has_third, third_at, delay_place, module_record, event_record};

@@ -1,4 +1,6 @@
 // Reads a horizon and a sheet from standard input, runs the sheet and prints the answer's sentence and its listing.
+#![tactic(auto)]
+
 ghost use Rattle.std.specs.Prelude.{◌≡◌, ◌≤◌, length, take};
 ghost use Rattle.program.specs.Program.{program_text};
 ghost use Rattle.program.specs.Room.{lent_bytes, text_bytes};

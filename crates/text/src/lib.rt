@@ -1,4 +1,6 @@
 // What the program prints: an answer's sentence and the listing's records as text.
+#![tactic(auto)]
+
 mod line;
 
 ghost use Rattle.sheet.specs.Outcome.{outcome_of};

@@ -1,5 +1,7 @@
 // The modules' part of a tick, over arrays that the run lends: the drive, the changes due, the modules of delay zero, and what the
 // delayed ones schedule.
+#![tactic(auto)]
+
 mod contribution;
 mod counts;
 mod delayed;

@@ -1,5 +1,7 @@
 // The library: what users call, and what each call promises. A call that takes a sheet is there for each edition: the second's with _2, a
 // conversion for each way.
+#![tactic(auto)]
+
 ghost use Rattle.std.specs.Prelude.{◌≡◌};
 ghost use Rattle.sheet.specs.Layout.{first_edition, second_edition};
 ghost use Rattle.sheet.specs.Outcome.{outcome_of};

@@ -1,5 +1,7 @@
 // The library's entry points for other languages. A slice passes as a pointer and a length. A call that takes a sheet is there for each
 // edition: the second's with _2, a conversion for each way.
+#![tactic(auto)]
+
 ghost use Rattle.std.specs.Prelude.{◌≡◌};
 ghost use Rattle.sheet.specs.Layout.{first_edition, second_edition};
 ghost use Rattle.sheet.specs.Outcome.{Outcome, outcome_of, numbers, from_numbers};
