@@ -95,9 +95,27 @@ enum Changes {
     Definitions,
 }
 
-/// Whether the text at a place stands in a function's contract, which is written between ⌜ and ⌝.
+/// Whether the text at a place stands in a function's contract: in the braces after `requires` or `ensures`, which may
+/// have a name between them.
 fn in_contract(code: &str, at: usize) -> bool {
-    code[..at].matches('⌜').count() > code[..at].matches('⌝').count()
+    let Some(word) = ["requires", "ensures"]
+        .iter()
+        .filter_map(|word| code[..at].rfind(word))
+        .max()
+    else {
+        return false;
+    };
+    let Some(brace) = code[word..at].find('{') else {
+        return false;
+    };
+    let clause = &code[word + brace..at];
+    let open = clause.matches('{').count();
+    let mut depth = 0;
+    let closed = clause.char_indices().any(|(_, c)| {
+        depth += i32::from(c == '{') - i32::from(c == '}');
+        depth == 0
+    });
+    open > 0 && !closed
 }
 
 /// What an edit changes in a crate: a file of `specs` or `proofs`, or a contract, is a definition's.
@@ -173,14 +191,14 @@ fn every_edit_is_listed_once_in_its_table() {
 
 #[test]
 fn an_edit_of_a_contract_is_told_from_one_of_code() {
-    let code = "fn f()\n    ensures { λ r. ⌜ r ≡ 1 ⌝ }\n{\n    1 + 0\n}\n";
+    let code = "fn f()\n    ensures { result ≡ 1 }\n{\n    1 + 0\n}\n";
     let of = |edit: &str| changes(edit, |_| code.to_string());
     assert_eq!(
         of("Why.\nfile: src/lib.rt\nold: 1 + 0\nnew: 2\n"),
         Changes::Code
     );
     assert_eq!(
-        of("file: src/lib.rt\nold: r ≡ 1 ⌝\nnew: r ≡ r ⌝\n"),
+        of("file: src/lib.rt\nold: result ≡ 1\nnew: result ≡ result\n"),
         Changes::Definitions
     );
     assert_eq!(

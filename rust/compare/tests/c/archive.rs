@@ -44,7 +44,24 @@ fn symbols(wanted: &str) -> Vec<String> {
 #[test]
 fn what_it_offers_and_asks_for() {
     let offered = symbols("T");
-    assert!(!offered.is_empty(), "it offers nothing");
+    assert_eq!(
+        offered,
+        [
+            "timing_check",
+            "timing_check_2",
+            "timing_check_strict",
+            "timing_check_strict_2",
+            "timing_convert_1_to_2",
+            "timing_convert_2_to_1",
+            "timing_describe",
+            "timing_load",
+            "timing_load_2",
+            "timing_pulses",
+            "timing_pulses_2",
+            "timing_run",
+            "timing_run_2"
+        ]
+    );
     assert_eq!(offered, functions(), "the archive, then the header");
     assert_eq!(symbols("U"), ["memcpy", "memset"]);
 }

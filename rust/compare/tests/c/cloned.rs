@@ -46,6 +46,8 @@ impl Cloned {
             cloned.copy(&format!("examples/c/{name}"));
         }
         cloned.copy("examples/c/Makefile");
+        cloned.copy("tools/build");
+        cloned.copy("crates/timing_c/src/lib.rt");
         cloned
     }
 

@@ -22,7 +22,7 @@ pub fn leading_number(text: &str) -> Option<u32> {
 /// The name of a case: "  name : ..", two columns in or more.
 fn case_name(line: &str) -> Option<&str> {
     let (name, _) = line.strip_prefix("  ")?.trim_start().split_once(" : ")?;
-    let is_name = name.chars().all(|c| c.is_ascii_lowercase() || c == '-');
+    let is_name = name.chars().all(|c| c.is_ascii_lowercase() || c == '_');
     is_name.then_some(name)
 }
 
@@ -103,13 +103,13 @@ fn bound(file: &str, name: &str) -> u32 {
 /// The bound in the theorem on an edition's longest sheet.
 pub fn longest_sheet(edition: Edition) -> u32 {
     let theorem = match edition {
-        Edition::First => "longest-sheet",
-        Edition::Second => "longest-sheet-2",
+        Edition::First => "longest_sheet",
+        Edition::Second => "longest_sheet_2",
     };
     bound("format/proofs/Theorems.antt", theorem)
 }
 
 /// The bound in the theorem on the longest sentence.
 pub fn longest_sentence() -> u32 {
-    bound("sentence/proofs/Longest.antt", "longest-sentence")
+    bound("sentence/proofs/Longest.antt", "longest_sentence")
 }

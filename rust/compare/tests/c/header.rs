@@ -80,18 +80,9 @@ fn declarations_of_every_form() {
     assert_eq!(functions_of(text), ["one", "two", "three", "four"]);
 }
 
-/// How the header writes a definition's name: `ends-inside` and `mostNodes` become
-/// TIMING_ENDS_INSIDE and TIMING_MOST_NODES.
+/// How the header writes a definition's name: `most_nodes` becomes TIMING_MOST_NODES.
 fn in_c(name: &str) -> String {
-    let mut written = String::from("TIMING_");
-    for c in name.chars() {
-        match c {
-            '-' => written.push('_'),
-            'A'..='Z' => written.extend(['_', c]),
-            _ => written.push(c.to_ascii_uppercase()),
-        }
-    }
-    written
+    format!("TIMING_{}", name.to_ascii_uppercase())
 }
 
 /// Asserts that both have the same names with the same numbers, each once.

@@ -12,9 +12,12 @@ use crate::header::HEADER;
 
 const PROGRAMS: [&str; 2] = ["worked_run", "run_sheet"];
 
+/// The crate of the library, in whose folder rt is asked for it.
+const LIBRARY: &str = "crates/timing_c";
+
 /// What rt was asked for in a clone, a line each time.
 fn asked(cloned: &Cloned) -> String {
-    fs::read_to_string(cloned.folder.join("asked")).unwrap_or_default()
+    fs::read_to_string(cloned.folder.join(LIBRARY).join("asked")).unwrap_or_default()
 }
 
 /// The files of a folder of a clone, sorted; none where there is no such folder.
@@ -36,7 +39,7 @@ fn a_fresh_clone() {
     let cloned = Cloned::new("fresh_clone");
     let before = files(&cloned, "examples/c");
     cloned.make(&["-j2"]).printed();
-    assert_eq!(asked(&cloned), "staticlib timing_c\n");
+    assert_eq!(asked(&cloned), "lib\n");
     let printed = cloned.program("worked_run").printed(&[], &[]);
     assert_eq!(printed, worked_run::PRINTED);
     assert_eq!(cloned.make(&["-q"]).status, Some(0));
@@ -49,7 +52,7 @@ fn a_fresh_clone() {
 
     let ran = cloned.make(&["-s", "run"]).printed();
     assert_eq!(ran, worked_run::PRINTED);
-    assert_eq!(asked(&cloned), "staticlib timing_c\n");
+    assert_eq!(asked(&cloned), "lib\n");
     assert_eq!(files(&cloned, "examples/c"), before);
 }
 

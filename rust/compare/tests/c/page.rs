@@ -73,24 +73,24 @@ fn grouped(number: u32) -> String {
 fn the_limits_in_phrases() {
     let limits = definitions::limits();
     let named_in = [
-        (1, &["greatestHorizon"][..]),
+        (1, &["greatest_horizon"][..]),
         (
             3,
             &[
-                "leastNodes",
-                "mostNodes",
-                "mostModules",
-                "mostEvents",
-                "mostWatched",
+                "least_nodes",
+                "most_nodes",
+                "most_modules",
+                "most_events",
+                "most_watched",
             ],
         ),
-        (4, &["lastValue", "inputByte"]),
-        (8, &["longestDelay"]),
-        (11, &["lastTick"]),
-        (13, &["lastValue"]),
-        (20, &["pendingLimit"]),
-        (24, &["greatestWidth"]),
-        (26, &["mostEvents"]),
+        (4, &["last_value", "input_byte"]),
+        (8, &["longest_delay"]),
+        (11, &["last_tick"]),
+        (13, &["last_value"]),
+        (20, &["pending_limit"]),
+        (24, &["greatest_width"]),
+        (26, &["most_events"]),
     ];
     for (number, names) in named_in {
         let phrase = plain::phrase(number).expect("it is listed");
