@@ -1,7 +1,6 @@
 -- Document 02, W-207: a sheet of one edition in the other. Each module record gains a third input of 0 or loses it, and all other bytes
 -- stay in their order.
-use Rattle.std.specs.Prelude.{List, [], ◌∷◌, ◌++◌, ℕ, ◌+◌, ◌-◌, ◌*◌, length, take, drop}
-use Rattle.level.specs.Choice.{if◌then◌else◌}
+use Rattle.std.specs.Prelude.{List, [], ◌∷◌, ◌++◌, ℕ, ◌+◌, ◌-◌, ◌*◌, length, take, drop, if◌then◌else◌}
 use Rattle.sheet.specs.declared.Edition.{Edition}
 use Rattle.sheet.specs.Enumerate.{each}
 use Rattle.sheet.specs.Layout.{count_size, modules_place, modules_counted, module_place, has_third, third_at, delay_place, drive_place}

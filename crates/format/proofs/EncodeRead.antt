@@ -7,7 +7,7 @@ use mathlib.Core.Path.{◌≡◌, refl, sym, ap, ◌∙◌}
 use Prim.Native.Nat.{ℕ, ◌+◌, ◌*◌, ◌<◌, ◌^◌}
 use native.Mathlib.Omega.{arith}
 use lib.ListN.{length, drop}
-use Rattle.level.specs.Choice.{if◌then◌else◌}
+use Rattle.std.specs.Prelude.{if◌then◌else◌}
 use Rattle.sheet.specs.Bytes.{byte_at}
 use Rattle.sheet.specs.declared.Edition.{Edition}
 use Rattle.sheet.specs.Layout.{count_size, event_size, nodes_counted, node_place, node_at, modules_place, modules_counted, module_place, has_third, delay_place, module_record, module_at, drive_place, events_counted, event_place, event_at, watched_place, watched_counted, watch_place, watched_at, sheet_end, sheet_of}

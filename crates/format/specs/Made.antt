@@ -1,7 +1,6 @@
 -- Document 02, W-207 and W-208: what a call that makes bytes for a lent output answers, and what the output then holds. They are written whole or
 -- not at all.
-use Rattle.std.specs.Prelude.{List, ◌++◌, ◌≡◌, ℕ, ltb, length, drop}
-use Rattle.level.specs.Choice.{if◌then◌else◌}
+use Rattle.std.specs.Prelude.{List, ◌++◌, ◌≡◌, ℕ, ltb, length, drop, if◌then◌else◌}
 use Rattle.sheet.specs.Outcome.{Outcome, finished, refused, or_else}
 
 -- What is made: the bytes; the refusal of an output that is shorter, with its place and count; what a success answers.

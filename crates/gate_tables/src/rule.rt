@@ -1,6 +1,5 @@
 // The gates' rules, each worked out over the list of its inputs' values as its definition says it.
-ghost use Rattle.std.specs.Prelude.{not, ◌≡◌, eqb, take};
-ghost use Rattle.level.specs.Choice.{if◌then◌else◌};
+ghost use Rattle.std.specs.Prelude.{not, ◌≡◌, eqb, take, if◌then◌else◌};
 ghost use Rattle.level.specs.Level.{high};
 ghost use Rattle.level.specs.Gate.{counted, input_at, some, every, odd_ones, inverse, common, buffer, inverter, and, or, xor};
 ghost use Rattle.level.specs.Gate.{nand, nor, clocked_inverter, multiplexer};

@@ -1,6 +1,5 @@
 -- Numbers in decimal, as bytes: the digits '0' to '9' are 48 to 57.
-use Rattle.std.specs.Prelude.{List, [], ◌∷◌, ◌++◌, ℕ, zero, suc, ◌+◌, ◌/◌, ◌%◌, ltb}
-use Rattle.level.specs.Choice.{if◌then◌else◌}
+use Rattle.std.specs.Prelude.{List, [], ◌∷◌, ◌++◌, ℕ, zero, suc, ◌+◌, ◌/◌, ◌%◌, ltb, if◌then◌else◌}
 
 abbrev pub digit : ℕ → ℕ
 digit d = 48 + d

@@ -9,7 +9,7 @@ use borrow.Author.Tests.{ltb-true, ltb-false, eqb-true, lt-ltb, le-ltb, ne_eqb}
 use lib.Dec.{T, eqb, leb, ltb, eqb→eq, leb→le, ltb→lt}
 use lib.Ieee.Fits.{and_l, and_r}
 use lib.ListN.{length, get_or, take, length-take, get_or-map, get_or-eq_default}
-use Rattle.level.specs.Choice.{if◌then◌else◌}
+use Rattle.std.specs.Prelude.{if◌then◌else◌}
 use Rattle.level.specs.Level.{unknown}
 use Rattle.level.specs.Gate.{input_at, buffer, inverter, and, or, xor, nand, nor, clocked_inverter, multiplexer, member}
 use Rattle.level.specs.Rule.{Rule, gate, hold, inputs_of, comes_to}

@@ -1,7 +1,6 @@
 -- Document 01, "Modules", with document 02's W-202 and W-205: the rules of the gates over the list of their inputs' values, two or three
 -- of them by one text, and a memory's set of values.
-use Rattle.std.specs.Prelude.{Bool, true, false, ◌&&◌, ◌||◌, not, List, [], ◌∷◌, map, ℕ, ◌/◌, ◌%◌, ◌^◌, eqb, get_or, take}
-use Rattle.level.specs.Choice.{if◌then◌else◌}
+use Rattle.std.specs.Prelude.{Bool, true, false, ◌&&◌, ◌||◌, not, List, [], ◌∷◌, map, ℕ, ◌/◌, ◌%◌, ◌^◌, eqb, get_or, take, if◌then◌else◌}
 use Rattle.level.specs.Level.{low, high, unknown, none}
 
 -- an input of Z counts as X

@@ -1,6 +1,5 @@
 -- Document 02's W-209: what the drivers of one node come to together. Joining, of two values and of a list.
-use Rattle.std.specs.Prelude.{Bool, List, [], ◌∷◌, ℕ, zero, suc, eqb, ltb}
-use Rattle.level.specs.Choice.{if◌then◌else◌}
+use Rattle.std.specs.Prelude.{Bool, List, [], ◌∷◌, ℕ, zero, suc, eqb, ltb, if◌then◌else◌}
 use Rattle.level.specs.Level.{low, high, unknown, none}
 
 -- Z yields to the other, equal values stay, anything else is X

@@ -1,5 +1,4 @@
 -- Values and gates, as document 01 states them.
-pub mod Choice
 pub mod Level
 pub mod Gate
 pub mod Join

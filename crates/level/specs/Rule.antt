@@ -1,6 +1,5 @@
 -- A module's rule: how many inputs it uses, and what it does with the list of their values.
-use Rattle.std.specs.Prelude.{Bool, List, ℕ}
-use Rattle.level.specs.Choice.{if◌then◌else◌}
+use Rattle.std.specs.Prelude.{Bool, List, ℕ, if◌then◌else◌}
 use Rattle.level.specs.Gate.{input_at}
 
 -- a gate of so many inputs, with a function of their values; a memory of two, with its set of values

@@ -1,8 +1,7 @@
 -- The constant tables: one for each kind of gate that has inputs, kind after kind: 4 entries for one input, 16 for
 -- two and 64 for three.
 -- First where a gate's entry stands in them, then the entries.
-use Rattle.std.specs.Prelude.{Bool, List, [], ◌∷◌, ◌++◌, map, ℕ, zero, suc, ◌+◌, ◌*◌, ◌^◌, ltb}
-use Rattle.level.specs.Choice.{if◌then◌else◌}
+use Rattle.std.specs.Prelude.{Bool, List, [], ◌∷◌, ◌++◌, map, ℕ, zero, suc, ◌+◌, ◌*◌, ◌^◌, ltb, if◌then◌else◌}
 use Rattle.level.specs.Rule.{Rule, gate, hold}
 use Rattle.level.specs.Kind.{rule_of, last_kind}
 

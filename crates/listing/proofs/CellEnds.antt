@@ -8,7 +8,7 @@ use mathlib.Core.Path.{◌≡◌, refl, sym, ap, ap₂, ◌∙◌}
 use native.Mathlib.Omega.{arith}
 use Prim.Native.Nat.{ℕ, zero, suc, ◌-◌, ◌<◌, ◌≤◌}
 use lib.Dec.{eqb}
-use Rattle.level.specs.Choice.{if◌then◌else◌}
+use Rattle.std.specs.Prelude.{if◌then◌else◌}
 use Rattle.sheet.specs.Enumerate.{each}
 use Rattle.sheet.specs.Sheet.{Sheet}
 use Rattle.format.specs.Accepted.{Accepted}

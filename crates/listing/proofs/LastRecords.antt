@@ -7,7 +7,7 @@ use native.Mathlib.Omega.{arith}
 use Prim.Native.Nat.{ℕ, zero, suc, ◌≤◌}
 use lib.Dec.{eqb}
 use lib.ListN.{length}
-use Rattle.level.specs.Choice.{if◌then◌else◌}
+use Rattle.std.specs.Prelude.{if◌then◌else◌}
 use Rattle.network.specs.Listing.{Record}
 use Rattle.network.specs.Ends.{Ended}
 use Rattle.listing.specs.Ends.{next_of, with_ends, end_at, Last, nowhere, elsewhere, here, later}

@@ -1,6 +1,5 @@
 -- The ends that records get while they are listed: from later records of the same node, and at the last what is given for the node.
-use Rattle.std.specs.Prelude.{List, [], ◌∷◌, ◌≡◌, ℕ, zero, suc, ◌*◌, ◌<◌, ◌≤◌, eqb, length, get_or}
-use Rattle.level.specs.Choice.{if◌then◌else◌}
+use Rattle.std.specs.Prelude.{List, [], ◌∷◌, ◌≡◌, ℕ, zero, suc, ◌*◌, ◌<◌, ◌≤◌, eqb, length, get_or, if◌then◌else◌}
 use Rattle.sheet.specs.Limits.{most_nodes}
 use Rattle.network.specs.Listing.{Record}
 use Rattle.network.specs.Ends.{Ended}

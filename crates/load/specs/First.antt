@@ -1,6 +1,5 @@
 -- The value of a node before tick 0, by its byte.
-use Rattle.std.specs.Prelude.{ℕ, eqb}
-use Rattle.level.specs.Choice.{if◌then◌else◌}
+use Rattle.std.specs.Prelude.{ℕ, eqb, if◌then◌else◌}
 use Rattle.level.specs.Level.{unknown}
 use Rattle.sheet.specs.Limits.{input_byte}
 

@@ -1,6 +1,5 @@
 // What a load looks for in an accepted sheet: its inputs, and where the drive's section stands.
-ghost use Rattle.std.specs.Prelude.{[], ◌∷◌, ◌≡◌, ◌<◌, ◌≤◌, eqb};
-ghost use Rattle.level.specs.Choice.{if◌then◌else◌};
+ghost use Rattle.std.specs.Prelude.{[], ◌∷◌, ◌≡◌, ◌<◌, ◌≤◌, eqb, if◌then◌else◌};
 ghost use Rattle.sheet.specs.Enumerate.{chosen};
 ghost use Rattle.sheet.specs.Layout.{node_at, drive_place, watched_place};
 ghost use Rattle.sheet.specs.Limits.{input_byte};

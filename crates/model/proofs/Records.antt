@@ -9,7 +9,7 @@ use mathlib.Core.Logic.{inr}
 use mathlib.Core.Path.{◌≡◌, refl, ap, ◌∙◌}
 use native.Mathlib.Omega.{arith}
 use Prim.Native.Nat.{ℕ, zero, suc, ◌<◌, ◌≤◌}
-use Rattle.level.specs.Choice.{if◌then◌else◌}
+use Rattle.std.specs.Prelude.{if◌then◌else◌}
 use Rattle.sheet.specs.Sheet.{Sheet, node_count, watched_count, watched_node}
 use Rattle.sheet.proofs.Listed.{get_d_mem}
 use Rattle.format.specs.Accepted.{Accepted}

@@ -1,6 +1,5 @@
 -- A pending change: the tick at which it is due, the module's position in the working order, and the value that it gives.
-use Rattle.std.specs.Prelude.{List, [], ◌∷◌, ℕ, eqb}
-use Rattle.level.specs.Choice.{if◌then◌else◌}
+use Rattle.std.specs.Prelude.{List, [], ◌∷◌, ℕ, eqb, if◌then◌else◌}
 
 pub record Change : Type 0 where
   pub due : ℕ

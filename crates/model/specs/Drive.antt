@@ -1,6 +1,5 @@
 -- The drive's events of a tick, put into the nodes' values. Events rise by tick, so those of a tick stand together.
-use Rattle.std.specs.Prelude.{List, ℕ, zero, suc, ◌+◌, ◌-◌, ltb, length, get_or, set}
-use Rattle.level.specs.Choice.{if◌then◌else◌}
+use Rattle.std.specs.Prelude.{List, ℕ, zero, suc, ◌+◌, ◌-◌, ltb, length, get_or, set, if◌then◌else◌}
 use Rattle.sheet.specs.declared.Event.{Event}
 use Rattle.sheet.specs.Sheet.{no_event}
 

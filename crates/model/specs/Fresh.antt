@@ -1,6 +1,5 @@
 -- The records of a tick: watched nodes whose value is not the one shown last.
-use Rattle.std.specs.Prelude.{List, [], ◌∷◌, ℕ, eqb, get_or, set}
-use Rattle.level.specs.Choice.{if◌then◌else◌}
+use Rattle.std.specs.Prelude.{List, [], ◌∷◌, ℕ, eqb, get_or, set, if◌then◌else◌}
 use Rattle.network.specs.Listing.{Record}
 
 -- before the first tick no value is shown; this is none

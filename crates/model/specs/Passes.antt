@@ -1,7 +1,6 @@
 -- The passes of a tick over the changes that are due, over the modules of delay zero and over the delayed ones.
 -- Modules go by their position in the working order.
-use Rattle.std.specs.Prelude.{List, [], ◌∷◌, map, ℕ, zero, suc, ◌+◌, eqb, ltb, length, get_or, set}
-use Rattle.level.specs.Choice.{if◌then◌else◌}
+use Rattle.std.specs.Prelude.{List, [], ◌∷◌, map, ℕ, zero, suc, ◌+◌, eqb, ltb, length, get_or, set, if◌then◌else◌}
 use Rattle.level.specs.Join.{joined}
 use Rattle.level.specs.Rule.{comes_to}
 use Rattle.sheet.specs.declared.Module.{Module}

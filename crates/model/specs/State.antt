@@ -1,6 +1,5 @@
 -- What the run keeps between ticks, and what one tick makes of it.
-use Rattle.std.specs.Prelude.{List, ℕ, zero, suc, ◌+◌, ◌-◌, eqb, length}
-use Rattle.level.specs.Choice.{if◌then◌else◌}
+use Rattle.std.specs.Prelude.{List, ℕ, zero, suc, ◌+◌, ◌-◌, eqb, length, if◌then◌else◌}
 use Rattle.level.specs.Level.{unknown}
 use Rattle.sheet.specs.declared.Module.{Module}
 use Rattle.sheet.specs.declared.Event.{Event}

@@ -5,7 +5,7 @@ use mathlib.Core.List.{List, []}
 use mathlib.Core.Logic.{⊎_elim, ◌⊎◌}
 use mathlib.Core.Path.{ap, refl, sym, ◌≡◌, ◌∙◌}
 use Prim.Native.Nat.{ℕ}
-use Rattle.level.specs.Choice.{if◌then◌else◌}
+use Rattle.std.specs.Prelude.{if◌then◌else◌}
 use Rattle.sheet.specs.Layout.{sheet_of}
 use Rattle.sheet.specs.Outcome.{finished, refused}
 use Rattle.sheet.specs.Refusal.{rows, checked_by, checked}

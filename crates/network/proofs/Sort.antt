@@ -10,7 +10,7 @@ use mathlib.Core.Logic.{◌↔◌, ◌⊎◌, inl, inr}
 use mathlib.Core.Path.{◌≡◌, refl, sym, ap, ◌∙◌}
 use native.Mathlib.Omega.{arith}
 use Prim.Native.Nat.{ℕ, suc, ◌<◌}
-use Rattle.level.specs.Choice.{if◌then◌else◌}
+use Rattle.std.specs.Prelude.{if◌then◌else◌}
 use Rattle.network.specs.Renumbering.{insert, sort}
 use Rattle.sheet.proofs.Listed.{get_d_mem}
 use Rattle.network.proofs.Rising.{Pairs, Rising, Up, pairs_at, rising_pairs, rising_unique, mem_place}

@@ -1,7 +1,6 @@
 -- Document 02, W-204: the listing with ends. A record gets the end of its value: the tick of its node's next change below a bound, or the
 -- bound. The bound is the horizon; after refusal 19 it is the refused tick, after 20 the tick after it.
-use Rattle.std.specs.Prelude.{Bool, List, map, ℕ, zero, suc, ◌-◌}
-use Rattle.level.specs.Choice.{if◌then◌else◌}
+use Rattle.std.specs.Prelude.{Bool, List, map, ℕ, zero, suc, ◌-◌, if◌then◌else◌}
 use Rattle.sheet.specs.Sheet.{Sheet}
 use Rattle.network.specs.Timeline.{Cells}
 use Rattle.network.specs.Listing.{Record, record_key, changes, listing}

@@ -1,6 +1,5 @@
 -- Document 01, "Modules": events at or past the horizon are read and have no effect. What two sheets are that differ in such events alone.
-use Rattle.std.specs.Prelude.{List, [], ◌∷◌, ◌≡◌, ℕ, ltb}
-use Rattle.level.specs.Choice.{if◌then◌else◌}
+use Rattle.std.specs.Prelude.{List, [], ◌∷◌, ◌≡◌, ℕ, ltb, if◌then◌else◌}
 use Rattle.sheet.specs.declared.Event.{Event}
 use Rattle.sheet.specs.Sheet.{Sheet}
 

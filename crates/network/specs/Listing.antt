@@ -1,6 +1,5 @@
 -- Document 01, "The listing", with document 02's W-209: the records that cells give, and the changes pending after a tick.
-use Rattle.std.specs.Prelude.{Bool, true, ◌&&◌, not, List, [], ◌∷◌, ℕ, zero, suc, ◌+◌, ◌*◌, eqb, ltb}
-use Rattle.level.specs.Choice.{if◌then◌else◌}
+use Rattle.std.specs.Prelude.{Bool, true, ◌&&◌, not, List, [], ◌∷◌, ℕ, zero, suc, ◌+◌, ◌*◌, eqb, ltb, if◌then◌else◌}
 use Rattle.sheet.specs.Enumerate.{each}
 use Rattle.sheet.specs.Sheet.{Sheet, module_count, module_of}
 use Rattle.network.specs.Timeline.{Cells, contributions}

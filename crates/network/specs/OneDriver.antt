@@ -1,7 +1,6 @@
 -- Document 01 before W-209, which had one driver for each node: what it said of cells, of pending changes and of a run, so that a theorem can
 -- say that nothing of it has changed for sheets with one driver a node.
-use Rattle.std.specs.Prelude.{T, ltb, length, ◌&&◌, false, List, [], ◌∷◌, ◌≡◌, ℕ, suc, ◌+◌, ◌<◌}
-use Rattle.level.specs.Choice.{if◌then◌else◌}
+use Rattle.std.specs.Prelude.{T, ltb, length, ◌&&◌, false, List, [], ◌∷◌, ◌≡◌, ℕ, suc, ◌+◌, ◌<◌, if◌then◌else◌}
 use Rattle.sheet.specs.declared.Edition.{Edition}
 use Rattle.sheet.specs.Enumerate.{each}
 use Rattle.sheet.specs.Limits.{pending_limit}

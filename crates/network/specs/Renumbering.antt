@@ -1,7 +1,6 @@
 -- Document 01, "Working and renumbering": a sheet with its nodes renumbered, its modules listed in another order,
 -- and its drive and watched nodes sorted again.
-use Rattle.std.specs.Prelude.{List, [], ◌∷◌, map, ◌≡◌, ℕ, ◌<◌, leb, ltb}
-use Rattle.level.specs.Choice.{if◌then◌else◌}
+use Rattle.std.specs.Prelude.{List, [], ◌∷◌, map, ◌≡◌, ℕ, ◌<◌, leb, ltb, if◌then◌else◌}
 use Rattle.level.specs.Rule.{inputs_of}
 use Rattle.sheet.specs.declared.Module.{Module}
 use Rattle.sheet.specs.declared.Event.{Event}

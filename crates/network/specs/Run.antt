@@ -1,6 +1,5 @@
 -- Document 01, "Where each refusal is met": what a run answers and what the buffer then holds, for any bytes, horizon and buffer.
-use Rattle.std.specs.Prelude.{Bool, List, [], ◌∷◌, ◌≡◌, ℕ, suc, ltb, length}
-use Rattle.level.specs.Choice.{if◌then◌else◌}
+use Rattle.std.specs.Prelude.{Bool, List, [], ◌∷◌, ◌≡◌, ℕ, suc, ltb, length, if◌then◌else◌}
 use Rattle.sheet.specs.declared.Edition.{Edition}
 use Rattle.sheet.specs.Enumerate.{each}
 use Rattle.sheet.specs.Limits.{greatest_horizon, pending_limit}

@@ -1,7 +1,6 @@
 -- Document 01, "Time and values" and "Modules", with document 02's W-203 and W-209: cells, an input's cell from the drive, what a module
 -- contributes to its output node, and a driven node's cell from the contributions of all its drivers.
-use Rattle.std.specs.Prelude.{Bool, ◌&&◌, List, [], ◌∷◌, map, ℕ, zero, suc, ◌-◌, eqb, ltb}
-use Rattle.level.specs.Choice.{if◌then◌else◌}
+use Rattle.std.specs.Prelude.{Bool, ◌&&◌, List, [], ◌∷◌, map, ℕ, zero, suc, ◌-◌, eqb, ltb, if◌then◌else◌}
 use Rattle.level.specs.Level.{unknown}
 use Rattle.level.specs.Gate.{input_at}
 use Rattle.level.specs.Join.{joined}

@@ -1,7 +1,6 @@
 -- Document 01, "Working and renumbering", with document 02's W-209: a sheet is worked from its bytes, the horizon and an order of its
 -- modules for each tick.
-use Rattle.std.specs.Prelude.{◌&&◌, List, [], ◌∷◌, ℕ, zero, suc, eqb}
-use Rattle.level.specs.Choice.{if◌then◌else◌}
+use Rattle.std.specs.Prelude.{◌&&◌, List, [], ◌∷◌, ℕ, zero, suc, eqb, if◌then◌else◌}
 use Rattle.level.specs.Join.{joined}
 use Rattle.level.specs.Level.{unknown}
 use Rattle.sheet.specs.Sheet.{Sheet}

@@ -10,7 +10,7 @@ use borrow.Author.Tests.{eq-eqb, ne_eqb}
 use lib.Dec.{eqb}
 use lib.ListN.{get_or, set, take, drop, length-set}
 use lib.Seq.{take-suc, drop-cons, take-suc-set, take-set-lt, drop-set-lt, take_all, length-take-le, get_or-take}
-use Rattle.level.specs.Choice.{if◌then◌else◌}
+use Rattle.std.specs.Prelude.{if◌then◌else◌}
 use Rattle.sheet.proofs.Listed.{get_d_mem}
 use Rattle.model.specs.Change.{Change}
 use Rattle.pending.specs.declared.Scan.{Scan}

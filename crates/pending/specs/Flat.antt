@@ -1,6 +1,5 @@
 -- Pending changes in a flat list of numbers, in the order in which they were put.
-use Rattle.std.specs.Prelude.{List, [], ◌∷◌, ◌++◌, ℕ, ◌+◌, ◌*◌, ◌/◌, ◌%◌, ◌<◌, eqb}
-use Rattle.level.specs.Choice.{if◌then◌else◌}
+use Rattle.std.specs.Prelude.{List, [], ◌∷◌, ◌++◌, ℕ, ◌+◌, ◌*◌, ◌/◌, ◌%◌, ◌<◌, eqb, if◌then◌else◌}
 use Rattle.sheet.specs.Limits.{most_modules, pending_limit}
 use Rattle.model.specs.Change.{Change}
 

@@ -1,5 +1,5 @@
 -- The flat list is a store: its laws. Assumes nothing.
-use Rattle.std.specs.Prelude.{Bool, ℕ, suc, length}
+use Rattle.std.specs.Prelude.{Bool, ℕ, suc, length, if◌then◌else◌}
 use Rattle.std.proofs.Math.Bool.{true, false}
 use mathlib.Core.List.Memᴰ
 use mathlib.Core.List.{List, [], ◌∷◌, ◌++◌, Memᴰ}
@@ -7,7 +7,6 @@ use Rattle.std.proofs.Math.Path.{◌≡◌, refl, ap}
 use Rattle.std.proofs.Common.{sym, ◌∙◌, arith}
 use borrow.Author.Tests.{eqb-true, eq-eqb}
 use Rattle.std.proofs.Math.Dec.{eqb}
-use Rattle.level.specs.Choice.{if◌then◌else◌}
 use Rattle.model.specs.Change.{Change, not_due}
 use Rattle.model.specs.Store.{Store, Keepable}
 use Rattle.pending.specs.Flat.{Packable, FlatHolds, none, one, packed, unpacked, flat_put, flat_due, flat_rest}

@@ -1,6 +1,5 @@
 -- The pulses that the records of a listing show: a record has both ends of its stretch.
-use Rattle.std.specs.Prelude.{List, [], ◌∷◌, ℕ, ◌*◌}
-use Rattle.level.specs.Choice.{if◌then◌else◌}
+use Rattle.std.specs.Prelude.{List, [], ◌∷◌, ℕ, ◌*◌, if◌then◌else◌}
 use Rattle.sheet.specs.Enumerate.{each}
 use Rattle.network.specs.Ends.{Ended}
 use Rattle.network.specs.Buffer.{record_size, record_in}

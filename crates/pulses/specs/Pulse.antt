@@ -1,7 +1,6 @@
 -- Document 02, W-208: pulses by the cells of watched nodes, and those of them that are shorter than a width.
-use Rattle.std.specs.Prelude.{ltb, length, get_or, Bool, ◌&&◌, ◌≡◌, ℕ, ◌+◌, ◌-◌, ◌*◌, ◌<◌}
+use Rattle.std.specs.Prelude.{ltb, length, get_or, Bool, ◌&&◌, ◌≡◌, ℕ, ◌+◌, ◌-◌, ◌*◌, ◌<◌, if◌then◌else◌}
 use mathlib.Core.List.{List, [], ◌∷◌, Memᴰ}
-use Rattle.level.specs.Choice.{if◌then◌else◌}
 use Rattle.sheet.specs.Enumerate.{each}
 use Rattle.sheet.specs.Sheet.{Sheet}
 use Rattle.network.specs.Timeline.{Cells}

@@ -1,6 +1,5 @@
 -- A node has begun if a module drives it or it has an event at tick 0; the code flags those that have.
-use Rattle.std.specs.Prelude.{Bool, true, false, not, List, [], ◌∷◌, ℕ, eqb, get_or, set}
-use Rattle.level.specs.Choice.{if◌then◌else◌}
+use Rattle.std.specs.Prelude.{Bool, true, false, not, List, [], ◌∷◌, ℕ, eqb, get_or, set, if◌then◌else◌}
 use Rattle.sheet.specs.declared.Event.{Event}
 use Rattle.sheet.specs.Enumerate.{each}
 use Rattle.sheet.specs.Refusal.{Row, ◌at◌when◌}

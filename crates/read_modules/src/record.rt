@@ -1,6 +1,5 @@
 // The refusals met in a module's record that was read whole.
-ghost use Rattle.std.specs.Prelude.{◌≡◌, leb, ltb};
-ghost use Rattle.level.specs.Choice.{if◌then◌else◌};
+ghost use Rattle.std.specs.Prelude.{◌≡◌, leb, ltb, if◌then◌else◌};
 ghost use Rattle.sheet.specs.Outcome.{outcome_of};
 ghost use Rattle.sheet.specs.Refusal.{first, greatest_parameter, miswired};
 ghost use Rattle.read_modules.specs.Record.{record_rows};

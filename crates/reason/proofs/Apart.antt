@@ -7,7 +7,7 @@ use native.Mathlib.Omega.{arith}
 use borrow.Author.Tests.{eqb-false, ltb-true, ltb-false}
 use lib.Dec.{T, eqb, ltb}
 use lib.ListN.{length}
-use Rattle.level.specs.Choice.{if◌then◌else◌}
+use Rattle.std.specs.Prelude.{if◌then◌else◌}
 use Rattle.level.proofs.Computed.{all_below, below}
 use Rattle.lent.specs.Letters.{letters}
 use Rattle.reason.specs.Phrases.{phrases, unlisted, is_listed, phrase_of}

@@ -6,7 +6,7 @@ use Prim.Native.Nat.{ℕ, suc}
 use native.Mathlib.Omega.{arith}
 use lib.Dec.{T}
 use lib.ListN.{length}
-use Rattle.level.specs.Choice.{if◌then◌else◌}
+use Rattle.std.specs.Prelude.{if◌then◌else◌}
 use Rattle.level.proofs.Computed.{all_below, below}
 use Rattle.lent.specs.Decimal.{decimal}
 use Rattle.lent.specs.Letters.{letters}

@@ -1,6 +1,5 @@
 -- Document 02, W-201: what a refusal's number says, up to its place.
-use Rattle.std.specs.Prelude.{List, ◌++◌, ℕ}
-use Rattle.level.specs.Choice.{if◌then◌else◌}
+use Rattle.std.specs.Prelude.{List, ◌++◌, ℕ, if◌then◌else◌}
 use Rattle.lent.specs.Decimal.{decimal}
 use Rattle.lent.specs.Letters.{letters}
 use Rattle.reason.specs.declared.Sort.TheVariants.{Bare}

@@ -1,6 +1,5 @@
 -- Document 02, W-201: what describing an answer in a lent text answers, and what the text then holds.
-use Rattle.std.specs.Prelude.{List, ◌++◌, ◌≡◌, ℕ, ltb, length, drop}
-use Rattle.level.specs.Choice.{if◌then◌else◌}
+use Rattle.std.specs.Prelude.{List, ◌++◌, ◌≡◌, ℕ, ltb, length, drop, if◌then◌else◌}
 use Rattle.sheet.specs.Outcome.{Outcome, finished, refused}
 use Rattle.sentence.specs.Sentence.{sentence}
 

@@ -9,7 +9,7 @@ use native.Mathlib.Omega.{arith}
 use Prim.Native.Nat.{ℕ, zero, suc, ◌<◌, ◌≤◌, zero-le}
 use lib.Dec.{lit≤}
 use lib.ListN.{length, length-append}
-use Rattle.level.specs.Choice.{if◌then◌else◌}
+use Rattle.std.specs.Prelude.{if◌then◌else◌}
 use Rattle.sheet.specs.Enumerate.{each, chosen}
 use Rattle.sheet.proofs.Each.{each-mem, each_same}
 

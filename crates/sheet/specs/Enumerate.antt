@@ -1,6 +1,5 @@
 -- What holds somewhere in a list or below a bound, and what is put in a row for each number below a bound.
-use Rattle.std.specs.Prelude.{Bool, false, ◌||◌, List, [], ◌∷◌, ◌++◌, ℕ, zero, suc}
-use Rattle.level.specs.Choice.{if◌then◌else◌}
+use Rattle.std.specs.Prelude.{Bool, false, ◌||◌, List, [], ◌∷◌, ◌++◌, ℕ, zero, suc, if◌then◌else◌}
 
 -- the test passes at some entry
 abbrev pub any_of : (ℕ → Bool) → List ℕ → Bool

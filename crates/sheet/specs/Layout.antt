@@ -1,8 +1,7 @@
 -- Document 01, "The sheet": four sections in this order, each after its count of two bytes, and the records in them, as bytes.
 -- An edition of the sheet fixes a module record's size and the greatest kind; this is all that tells editions apart. Document 02's W-205
 -- adds the second, whose module records have a third input.
-use Rattle.std.specs.Prelude.{Bool, List, ℕ, ◌+◌, ◌*◌, ltb}
-use Rattle.level.specs.Choice.{if◌then◌else◌}
+use Rattle.std.specs.Prelude.{Bool, List, ℕ, ◌+◌, ◌*◌, ltb, if◌then◌else◌}
 use Rattle.level.specs.Kind.{last_of_two, last_kind}
 use Rattle.sheet.specs.declared.Edition.{Edition}
 use Rattle.sheet.specs.declared.Module.{Module}

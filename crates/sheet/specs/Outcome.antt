@@ -1,7 +1,6 @@
 -- Document 01, "Where each refusal is met": an answer is either a finished run with its count, or a refusal with its number,
 -- place and count of records written.
-use Rattle.std.specs.Prelude.{List, [], ◌∷◌, ℕ, eqb}
-use Rattle.level.specs.Choice.{if◌then◌else◌}
+use Rattle.std.specs.Prelude.{List, [], ◌∷◌, ℕ, eqb, if◌then◌else◌}
 use Rattle.sheet.specs.declared.Answer.{Answer}
 use Rattle.sheet.specs.declared.Answer.TheVariants.{Ran, Refused}
 

@@ -1,7 +1,6 @@
 -- Document 01, "Where each refusal is met", and document 02, W-208: a horizon or a width that is 0 or above its greatest is refused before anything
 -- is read.
-use Rattle.std.specs.Prelude.{Bool, ◌||◌, ℕ, eqb, ltb}
-use Rattle.level.specs.Choice.{if◌then◌else◌}
+use Rattle.std.specs.Prelude.{Bool, ◌||◌, ℕ, eqb, ltb, if◌then◌else◌}
 use Rattle.sheet.specs.Limits.{greatest_horizon}
 use Rattle.sheet.specs.Outcome.{Outcome, finished, refused}
 

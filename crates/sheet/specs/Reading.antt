@@ -1,6 +1,5 @@
 -- Document 01: the sheet is read front to back. What stands at a place: the whole of a count or record, or bytes that end inside it.
-use Rattle.std.specs.Prelude.{List, ℕ}
-use Rattle.level.specs.Choice.{if◌then◌else◌}
+use Rattle.std.specs.Prelude.{List, ℕ, if◌then◌else◌}
 use Rattle.sheet.specs.declared.Edition.{Edition}
 use Rattle.sheet.specs.declared.CountRead.{CountRead}
 use Rattle.sheet.specs.declared.NodeRead.{NodeRead}

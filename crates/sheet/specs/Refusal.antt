@@ -1,8 +1,7 @@
 -- Document 01, "Where each refusal is met", with document 02's W-203 and W-209: refusals 2 to 18, row by row in the order of the table,
 -- and the answer of a check. A strict check has the row of 15; a check that is not strict, and so a run, has all the others. A node may
 -- have several drivers, so the row of 9 is there no more.
-use Rattle.std.specs.Prelude.{Bool, true, false, ◌&&◌, ◌||◌, not, List, [], ◌∷◌, ◌++◌, ℕ, zero, suc, ◌+◌, ◌*◌, eqb, leb, ltb, length}
-use Rattle.level.specs.Choice.{if◌then◌else◌}
+use Rattle.std.specs.Prelude.{Bool, true, false, ◌&&◌, ◌||◌, not, List, [], ◌∷◌, ◌++◌, ℕ, zero, suc, ◌+◌, ◌*◌, eqb, leb, ltb, length, if◌then◌else◌}
 use Rattle.sheet.specs.declared.Edition.{Edition}
 use Rattle.sheet.specs.declared.Module.{Module}
 use Rattle.sheet.specs.declared.Event.{Event}

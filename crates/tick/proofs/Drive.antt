@@ -9,7 +9,7 @@ use native.Mathlib.Omega.{arith}
 use borrow.Author.Tests.{lt-ltb, le-ltb}
 use lib.Dec.{ltb}
 use lib.ListN.{length, set}
-use Rattle.level.specs.Choice.{if◌then◌else◌}
+use Rattle.std.specs.Prelude.{if◌then◌else◌}
 use Rattle.sheet.specs.declared.Event.{Event}
 use Rattle.model.specs.Drive.{event_in, events_below, next_event, driven, drive_tick}
 use Rattle.tick.specs.Rest.{Levels, Driving}

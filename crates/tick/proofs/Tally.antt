@@ -12,7 +12,7 @@ use native.Mathlib.Nat.{not-suc-le-zero}
 use native.Mathlib.Numerals.{add-one}
 use native.Mathlib.Omega.{arith}
 use Prim.Native.Nat.{ℕ, zero, suc, ◌+◌, ◌-◌, ◌*◌, ◌<◌, ◌≤◌}
-use Rattle.level.specs.Choice.{if◌then◌else◌}
+use Rattle.std.specs.Prelude.{if◌then◌else◌}
 use Rattle.level.specs.Join.{joined, count_of, joined_counts}
 use Rattle.level.proofs.Gates.{values_all}
 use Rattle.level.proofs.Join.{joined_by_counts, count_append, count_member}

@@ -1,8 +1,7 @@
 -- What is kept of what modules give. A module that drives its node alone needs nothing: it gives the node's value. For a node with several
 -- drivers there are a flag in each of their rows of the table, what each of them gives, and how many of them give each value, so that one
 -- may give another value without a look at the others.
-use Rattle.std.specs.Prelude.{eqb, length, get_or, set, Bool, false, List, ◌≡◌, ℕ, ◌+◌, ◌-◌, ◌*◌, ◌<◌, ◌≤◌}
-use Rattle.level.specs.Choice.{if◌then◌else◌}
+use Rattle.std.specs.Prelude.{eqb, length, get_or, set, Bool, false, List, ◌≡◌, ℕ, ◌+◌, ◌-◌, ◌*◌, ◌<◌, ◌≤◌, if◌then◌else◌}
 use Rattle.level.specs.Join.{count_of}
 use Rattle.sheet.specs.Enumerate.{chosen, listed}
 use Rattle.sheet.specs.Limits.{most_nodes, most_modules}
