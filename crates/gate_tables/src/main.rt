@@ -82,15 +82,12 @@ fn put_tables(text: &mut [u8]) -> usize {
     put_all(text, to, b"];\n")
 }
 
-fn main() {
+fn main(rt: HostRuntime) {
     let mut text = [0u8; TEXT];
     let n = put_tables(&mut text);
     if n <= TEXT {
-        if !io::write_all(1, &text[..n]) {
-            io::write_all(
-                2,
-                b"gate_tables: standard output did not take the whole text\n",
-            );
+        if rt.stdout().write_all(&text[..n]).is_err() {
+            let _ = eprintln!(rt; "gate_tables: standard output did not take the whole text");
         }
     }
 }

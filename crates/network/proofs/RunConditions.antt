@@ -41,7 +41,7 @@ module _ {E : Edition} (known : Known E) (s : List ℕ) (horizon bytes : ℕ) (c
   begun : Begins E s horizon → ran E s horizon bytes ≡ written_of S cells horizon bytes
   begun b =
       let e : checked E s ≡ finished 0 = (no_refusal false known s).1 b.none_met in
-      ran_sheet_lem E s horizon bytes (in_range b.some-tick b.few_ticks) e ∙ ran_satisfied S (accepted E known s e).sheet horizon cells (satisfied b) bytes
+      ran_sheet_lem E s horizon bytes (in_range b.some_tick b.few_ticks) e ∙ ran_satisfied S (accepted E known s e).sheet horizon cells (satisfied b) bytes
 
   writes : (w : Written) → RunCondition E s cells horizon bytes w → ran E s horizon bytes ≡ w
   writes w (horizon_outside_lem (inl e)) = ran-outside E s horizon bytes (rw (eq-eqb horizon 0 e))
@@ -93,7 +93,7 @@ module _ {E : Edition} (known : Known E) (s : List ℕ) (horizon bytes : ℕ) (c
         where
           begins : checked E s ≡ finished 0 → (w : Written) × RunCondition E s cells horizon bytes w
           begins e =
-              let b : Begins E s horizon = record { some-tick = omega arith; few_ticks = f; none_met = (no_refusal false known s).0 e } in
+              let b : Begins E s horizon = record { some_tick = omega arith; few_ticks = f; none_met = (no_refusal false known s).0 e } in
               ⊎_elim (λ all. (_, whole b all)) (λ w. w) (ticks b horizon (omega arith))
 
   -- The answer and the records of a run are those whose condition is met, and no other condition is.

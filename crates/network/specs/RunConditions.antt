@@ -19,7 +19,7 @@ pub record Passed (S : Sheet) (c : Cells) (horizon bytes t : ℕ) : Type 0 where
 
 -- a horizon in its range, and a sheet that meets the condition of no refusal
 pub record Begins (e : Edition) (s : List ℕ) (horizon : ℕ) : Type 0 where
-  pub some-tick : 0 < horizon
+  pub some_tick : 0 < horizon
   pub few_ticks : horizon ≤ greatest_horizon
   pub none_met : (n p : ℕ) → Condition e s n p → ⊥
 

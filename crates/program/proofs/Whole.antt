@@ -49,10 +49,10 @@ module _ (s : List ℕ) (horizon bytes : ℕ) where
       let S = sheet_of first_edition s in
       let f = finished_run (ran first_edition s horizon bytes) ((run_of_lem.answers (ran first_edition s horizon bytes)).0 refl) n e in
       let b = f.begins in
-      let room_left = (f.passes (horizon - 1) (omega (arith, b.some-tick))).room_left in
+      let room_left = (f.passes (horizon - 1) (omega (arith, b.some_tick))).room_left in
       record {
         counted = f.counted;
-        fits = omega (arith, f.counted, ap length f.listed, length-map (listing S cells horizon) (ended_of cells horizon), subst (λ k. length (listing S cells k) ≤ room bytes) (last_tick b.some-tick) room_left);
+        fits = omega (arith, f.counted, ap length f.listed, length-map (listing S cells horizon) (ended_of cells horizon), subst (λ k. length (listing S cells k) ≤ room bytes) (last_tick b.some_tick) room_left);
         small = λ r m.
             let shown = (run_of_lem.lists n e).shown r m in
             record {

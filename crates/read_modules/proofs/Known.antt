@@ -27,7 +27,7 @@ module _ (e : Edition) (s : List ℕ) (rows : List Row) where
   known_as known told =
       let k = known.section in
       record {
-        section = record { answered = told; counted = k.counted; few = k.few; held = k.held; none-counted = k.none-counted; none_held = k.none_held };
+        section = record { answered = told; counted = k.counted; few = k.few; held = k.held; none_counted = k.none_counted; none_held = k.none_held };
         driven = known.driven;
         end = known.end;
         none = known.none;

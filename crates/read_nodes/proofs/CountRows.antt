@@ -20,7 +20,7 @@ ToldAt s place least most o count = CountTold (count_rows s place least most) mo
 
 module _ (s : List ℕ) (place least most : ℕ) {r : CountRead} (read : r ≡ count_read s place) where
   met : (number : ℕ) → refused number place 0 ≡ first (count_rows s place least most) → ToldAt s place least most (refused number place 0) 0
-  met number e = record { answered = e; counted = λ f. absurd (finished≢refused (sym f)); few = zero-le; none-counted = λ _. refl }
+  met number e = record { answered = e; counted = λ f. absurd (finished≢refused (sym f)); few = zero-le; none_counted = λ _. refl }
 
   pub count_short : r ≡ CountRead.Short → ToldAt s place least most (refused 2 place 0) 0
   unfolding first
@@ -45,7 +45,7 @@ module _ (s : List ℕ) (place least most : ℕ) {r : CountRead} (read : r ≡ c
           answered = simp (there.0, ← there.1, le-ltb n least l, le-ltb most n h);
           counted = λ _. there.1;
           few = h;
-          none-counted = λ f. absurd (f refl);
+          none_counted = λ f. absurd (f refl);
         }
 
 -- the count stands at the section's place

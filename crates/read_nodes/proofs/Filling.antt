@@ -26,7 +26,7 @@ module _ {ℓ} {A : Type ℓ} {rows : List Row} {most : ℕ} {blank : A} {n : �
         counted = λ f. absurd (finished≢refused (sym f ∙ e));
         few = λ f. absurd (finished≢refused (sym f ∙ e));
         held = λ f. absurd (finished≢refused (sym f ∙ e));
-        none-counted = λ _. refl;
+        none_counted = λ _. refl;
         none_held = λ _. refl;
       }
 
@@ -38,7 +38,7 @@ module _ {ℓ} {A : Type ℓ} {rows : List Row} {most : ℕ} {blank : A} {n : �
         counted = λ _. is;
         few = λ _. few;
         held = λ _. held;
-        none-counted = λ f. absurd (f refl);
+        none_counted = λ f. absurd (f refl);
         none_held = λ f. absurd (f refl);
       }
 

@@ -13,7 +13,7 @@ pub record CountTold (rows : List Row) (most n : ℕ) (answer : Outcome) (count 
   pub answered : answer ≡ first rows
   pub counted : answer ≡ finished 0 → count ≡ n
   pub few : count ≤ most
-  pub none-counted : (answer ≡ finished 0 → ⊥) → count ≡ 0
+  pub none_counted : (answer ≡ finished 0 → ⊥) → count ≡ 0
 
 -- of a byte that is a node's or a watched node
 abbrev pub ByteTold : List Row → ℕ → NodeChecked → Type 0

@@ -33,11 +33,12 @@ fn read_section<'a>(reader: SheetReader<'a>, which: u8, known: Reading) -> Secti
 {
     let bytes = reader.bytes;
     let reading = sections::read(bytes, reader.at, which, known);
+    let at = reading.at;
     Section {
         reading,
         rest: SheetReader {
             bytes,
-            at: reading.at,
+            at,
         },
     }
 }

@@ -209,7 +209,7 @@ module _ {S : Sheet} {table delays times nodes levels watched : List ℕ} {st : 
 
         pending_next : kept_in store' after.pending ≡ (state_at arrangement S horizon st (suc t)).pending
         unfolding state_at
-        pending_next = worked.pending-worked ∙ ap (λ x. (tick_of arrangement S horizon t x).state.pending) G.state
+        pending_next = worked.pending_worked ∙ ap (λ x. (tick_of arrangement S horizon t x).state.pending) G.state
 
         pending_now : arrangement.count (state_at arrangement S horizon st (suc t)).pending ≡ after.pending
         pending_now = ap arrangement.count (sym pending_next) ∙ counts_first store' after.pending W.store_size W.few
@@ -271,7 +271,7 @@ module _ {S : Sheet} {table delays times nodes levels watched : List ℕ} {st : 
           state_next : kept values' (given_in table shape.modules values' given') last' shown' starts store' after.pending ≡ state_at arrangement S horizon st (suc t)
           unfolding state_at
           state_next =
-              same_state worked.values_worked worked.given-worked worked.last_worked shown_next worked.pending-worked
+              same_state worked.values_worked worked.given_worked worked.last_worked shown_next worked.pending_worked
               ∙ ap (λ x. (tick_of arrangement S horizon t x).state) G.state
 
           next_tick : BetweenTicks S st horizon buffer table shape.modules (suc t) after.next after.pending count values' given' last' shown' starts store' now' places'

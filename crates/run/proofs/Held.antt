@@ -87,7 +87,7 @@ module _ (contents : Contents) (acc : Accepted (held_sheet contents)) (h : Holds
     ready starts ss =
         record {
           accepted = acc;
-          some-tick = some;
+          some_tick = some;
           few_ticks = few;
           modules = put ∙ ordered;
           delayed = counted ∙ ap (delayed_below S) h.module_count_lem;

@@ -18,7 +18,7 @@ kept values given last shown starts store count =
 pub record Ready (S : Sheet) (table delays times nodes levels watched : List ℕ)
     (st : State arrangement) (horizon : ℕ) (shape : Shape) (count : ℕ) : Type 0 where
   pub accepted : Accepted S
-  pub some-tick : 0 < horizon
+  pub some_tick : 0 < horizon
   pub few_ticks : horizon ≤ greatest_horizon
   pub modules : modules_in table delays shape.modules ≡ in_working_order S
   pub delayed : shape.delayed ≡ delayed_count S

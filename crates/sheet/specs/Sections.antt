@@ -45,5 +45,5 @@ pub record SectionRead {ℓ} {A : Type ℓ} (rows : List Row) (most : ℕ) (blan
   pub counted : answer ≡ finished 0 → count ≡ n
   pub few : answer ≡ finished 0 → count ≤ most
   pub held : answer ≡ finished 0 → records ≡ filled most blank (listed n stands)
-  pub none-counted : (answer ≡ finished 0 → ⊥) → count ≡ 0
+  pub none_counted : (answer ≡ finished 0 → ⊥) → count ≡ 0
   pub none_held : (answer ≡ finished 0 → ⊥) → records ≡ replicate most blank

@@ -205,9 +205,9 @@ module _ (table given counts : List ℕ) (size : length counts ≡ 1024) (k : �
             ap (λ c. if c then one (get_or given k 0) x else 0) (ne_eqb (driven_at table k) v d),
           )
 
-pub none-counted : (table given : List ℕ) (v : ℕ) → v < 256 → CountedAt table 0 given (replicate 1024 0) v
+pub none_counted : (table given : List ℕ) (v : ℕ) → v < 256 → CountedAt table 0 given (replicate 1024 0) v
 unfolding each
-none-counted table given v h x b = get_or-replicate 1024 (4 * v + x) 0 0 (omega arith)
+none_counted table given v h x b = get_or-replicate 1024 (4 * v + x) 0 0 (omega arith)
 
 -- flags and counts as they are loaded
 pub tallied : {table given counts : List ℕ} {shared : Bool} (n : ℕ) → n ≤ 256 → Flagged table n → (shared ≡ false → (k : ℕ) → k < n → flag_at table k ≡ 0) → length counts ≡ 1024

@@ -59,9 +59,9 @@ worked_tick l horizon t st last pending =
 pub record Worked (l : Loaded) (horizon t : ℕ) (st : Settled) (last : List ℕ) (pending : arrangement.Kept)
     (st' : Settled) (last' store' : List ℕ) (after : Carried) : Type 0 where
   pub values_worked : st'.values ≡ (worked_tick l horizon t st last pending).values
-  pub given-worked : st'.given ≡ (worked_tick l horizon t st last pending).given
+  pub given_worked : st'.given ≡ (worked_tick l horizon t st last pending).given
   pub last_worked : last' ≡ (worked_tick l horizon t st last pending).last
-  pub pending-worked : kept_in store' after.pending ≡ (worked_tick l horizon t st last pending).pending
+  pub pending_worked : kept_in store' after.pending ≡ (worked_tick l horizon t st last pending).pending
   pub next : after.next ≡ next_event l.drive (suc t)
   pub few : after.pending ≤ pending_room
   pub values_levels : Levels st'.values

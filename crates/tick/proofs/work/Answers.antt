@@ -61,9 +61,9 @@ returns c =
     let w = worked (loaded_in a.table.now a.delays.now a.ticks.now a.nodes.now a.levels.now a.shape) a.horizon a.t (settled_in a.table.now a.shape.modules a.values.now a.kept.now) a.last.now (kept_in a.store.now a.before.pending) (length_modules a.table.now a.delays.now a.shape.modules) refl (rw (d.1, still) at given.0) g.1 (z.0 a.delays.now) (h.0 a.shape.modules p.few_delayed) in (
       record {
         values_worked = w.0;
-        given-worked = w.1;
+        given_worked = w.1;
         last_worked = w.2;
-        pending-worked = w.3;
+        pending_worked = w.3;
         next = d.0;
         few = omega (arith, p.few_modules, p.few_delayed, p.few_pending, g.2, h.1);
         values_levels = z.1;

@@ -6,11 +6,11 @@ use borrow.Author.Rules.{rules}
 use lib.Dec.{eqb}
 use lib.ListN.{length, get_or, length-set}
 use Rattle.tick.specs.Tally.{driven_at, CountedAt}
-use Rattle.tick.proofs.Tally.{count_most, counted_more, none-counted}
+use Rattle.tick.proofs.Tally.{count_most, counted_more, none_counted}
 use Rattle.tick.proofs.load.load_counts.Goals as goal
 
 pub loop-k-init : goal.loop-k-init
-loop-k-init c = (omega arith, rw c.requires.2 (none-counted c.args.table.now c.args.kept.now), rw c.requires.2 (search rules))
+loop-k-init c = (omega arith, rw c.requires.2 (none_counted c.args.table.now c.args.kept.now), rw c.requires.2 (search rules))
 
 pub overflow_mul-k : goal.overflow_mul-k
 overflow_mul-k c = omega arith

@@ -6,7 +6,7 @@ use borrow.Author.Rules.{rules}
 use lib.Dec.{eqb}
 use lib.ListN.{length, get_or, length-set}
 use Rattle.tick.specs.Tally.{driven_at, CountedAt}
-use Rattle.tick.proofs.Tally.{count_most, counted_more, none-counted}
+use Rattle.tick.proofs.Tally.{count_most, counted_more, none_counted}
 use Rattle.tick.proofs.load.load_counts.Given as goal
 
 abbrev pub invariant-loop-k : goal.invariant-loop-k
