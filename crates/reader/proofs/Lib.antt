@@ -1,4 +1,3 @@
 -- The laws of this crate that belong to no one function.
 pub mod SectionRows
 pub mod Whole
-pub mod Owned

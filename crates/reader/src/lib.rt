@@ -36,10 +36,7 @@ fn read_section<'a>(reader: SheetReader<'a>, which: u8, known: Reading) -> Secti
     let at = reading.at;
     Section {
         reading,
-        rest: SheetReader {
-            bytes,
-            at,
-        },
+        rest: SheetReader { bytes, at },
     }
 }
 

@@ -12,9 +12,6 @@ use Rattle.reach.proofs.least_on_loop.Goals as goal
 pub loop-v-init : goal.loop-v-init
 loop-v-init c = (omega arith, none_yet _)
 
-pub overflow_mul-v : goal.overflow_mul-v
-overflow_mul-v c = omega arith
-
 pub overflow_add-v : goal.overflow_add-v
 overflow_add-v c = omega arith
 
