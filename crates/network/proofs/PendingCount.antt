@@ -9,7 +9,7 @@ use mathlib.Core.Path.{◌≡◌, refl, sym, ap, ap₂, ◌∙◌}
 use native.Mathlib.Nat.{le_refl, le-suc}
 use native.Mathlib.Omega.{arith}
 use Prim.Native.Nat.{ℕ, zero, suc, ◌+◌, ◌<◌, ◌≤◌}
-use Rattle.std.specs.Prelude.{if◌then◌else◌}
+use Rattle.std.specs.Prelude.{cond, if◌then◌else◌}
 use Rattle.sheet.specs.Enumerate.{each}
 use Rattle.sheet.specs.Sheet.{Sheet, module_count, module_of, node_count}
 use Rattle.network.specs.Listing.{changes, Pending, pending_of, pending}
@@ -28,7 +28,7 @@ pub tested : (b x y : Bool) → (b ≡ true → x ≡ y) → (b && x) ≡ (b && 
 tested true x y e = e refl
 tested false x y e = refl
 
-counted {ℓ} : {A : Type ℓ} (a : A) (b : Bool) → length (if b then a ∷ [] else []) ≡ (if b then 1 else 0)
+counted {ℓ} : {A : Type ℓ} (a : A) (b : Bool) → length (cond b (a ∷ []) []) ≡ (if b then 1 else 0)
 counted a true = refl
 counted a false = refl
 

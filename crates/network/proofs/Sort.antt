@@ -10,7 +10,7 @@ use mathlib.Core.Logic.{◌↔◌, ◌⊎◌, inl, inr}
 use mathlib.Core.Path.{◌≡◌, refl, sym, ap, ◌∙◌}
 use native.Mathlib.Omega.{arith}
 use Prim.Native.Nat.{ℕ, suc, ◌<◌}
-use Rattle.std.specs.Prelude.{if◌then◌else◌}
+use Rattle.std.specs.Prelude.{cond}
 use Rattle.network.specs.Renumbering.{insert, sort}
 use Rattle.sheet.proofs.Listed.{get_d_mem}
 use Rattle.network.proofs.Rising.{Pairs, Rising, Up, pairs_at, rising_pairs, rising_unique, mem_place}
@@ -21,7 +21,7 @@ module _ {ℓ} {A : Type ℓ} (by : A → ℕ) where
   insert-length a [] = refl
   insert-length a (b ∷ bs) = at (leb (by a) (by b)) (insert-length a bs)
     where
-      at : (t : Bool) → length (insert by a bs) ≡ suc (length bs) → length (if t then a ∷ b ∷ bs else b ∷ insert by a bs) ≡ suc (suc (length bs))
+      at : (t : Bool) → length (insert by a bs) ≡ suc (length bs) → length (cond t (a ∷ b ∷ bs) (b ∷ insert by a bs)) ≡ suc (suc (length bs))
       at true h = refl
       at false h = ap suc h
 
@@ -44,7 +44,7 @@ module _ {ℓ} {A : Type ℓ} (by : A → ℕ) where
   insert-mem a [] = Iff.rfl
   insert-mem {x} a (b ∷ bs) = at (leb (by a) (by b)) (insert-mem a bs)
     where
-      at : (t : Bool) → Memᴰ x (insert by a bs) ↔ Memᴰ x (a ∷ bs) → Memᴰ x (if t then a ∷ b ∷ bs else b ∷ insert by a bs) ↔ Memᴰ x (a ∷ b ∷ bs)
+      at : (t : Bool) → Memᴰ x (insert by a bs) ↔ Memᴰ x (a ∷ bs) → Memᴰ x (cond t (a ∷ b ∷ bs) (b ∷ insert by a bs)) ↔ Memᴰ x (a ∷ b ∷ bs)
       at true h = Iff.rfl
       at false h = (λ m. swap (behind h.0 m), λ m. behind h.1 (swap m))
 
@@ -69,7 +69,7 @@ module _ {ℓ} {A : Type ℓ} (by : A → ℕ) where
       before l c (inl e) = let k = ap by e in omega arith
       before l c (inr m) = p.0 c m
 
-      at : (t : Bool) → leb (by a) (by b) ≡ t → Pairs (Up by) (insert by a bs) → Pairs (Up by) (if t then a ∷ b ∷ bs else b ∷ insert by a bs)
+      at : (t : Bool) → leb (by a) (by b) ≡ t → Pairs (Up by) (insert by a bs) → Pairs (Up by) (cond t (a ∷ b ∷ bs) (b ∷ insert by a bs))
       at true e q = (λ c m. after (let k = leb-true (by a) (by b) e in let n = h b (Memᴰ.head refl) in omega arith) c (Memᴰ.cases_cons m), p)
       at false e q = (λ c m. before (leb-false (by a) (by b) e) c (Memᴰ.cases_cons ((insert-mem a bs).0 m)), q)
 

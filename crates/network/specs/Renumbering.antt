@@ -1,6 +1,6 @@
 -- Document 01, "Working and renumbering": a sheet with its nodes renumbered, its modules listed in another order,
 -- and its drive and watched nodes sorted again.
-use Rattle.std.specs.Prelude.{List, [], ◌∷◌, map, ◌≡◌, ℕ, ◌<◌, leb, ltb, if◌then◌else◌}
+use Rattle.std.specs.Prelude.{List, [], ◌∷◌, map, ◌≡◌, ℕ, ◌<◌, leb, ltb, cond, if◌then◌else◌}
 use Rattle.level.specs.Rule.{inputs_of}
 use Rattle.sheet.specs.declared.Module.{Module}
 use Rattle.sheet.specs.declared.Event.{Event}
@@ -26,7 +26,7 @@ pub record Permutation (n : ℕ) : Type 0 where
 -- sorted by a number
 unfoldable pub insert {ℓ} : {A : Type ℓ} → (A → ℕ) → A → List A → List A
 insert by a [] = a ∷ []
-insert by a (b ∷ bs) = if leb (by a) (by b) then a ∷ b ∷ bs else b ∷ insert by a bs
+insert by a (b ∷ bs) = cond (leb (by a) (by b)) (a ∷ b ∷ bs) (b ∷ insert by a bs)
 
 unfoldable pub sort {ℓ} : {A : Type ℓ} → (A → ℕ) → List A → List A
 sort by [] = []

@@ -1,5 +1,5 @@
 -- What holds somewhere in a list or below a bound, and what is put in a row for each number below a bound.
-use Rattle.std.specs.Prelude.{Bool, false, ◌||◌, List, [], ◌∷◌, ◌++◌, ℕ, zero, suc, if◌then◌else◌}
+use Rattle.std.specs.Prelude.{Bool, false, ◌||◌, List, [], ◌∷◌, ◌++◌, ℕ, zero, suc, cond}
 
 -- the test passes at some entry
 abbrev pub any_of : (ℕ → Bool) → List ℕ → Bool
@@ -18,7 +18,7 @@ each (suc n) f = each n f ++ f n
 
 -- what f gives at each number below the bound that passes the test
 abbrev pub chosen {ℓ} : {A : Type ℓ} → ℕ → (ℕ → Bool) → (ℕ → A) → List A
-chosen n test f = each n (λ i. if test i then f i ∷ [] else [])
+chosen n test f = each n (λ i. cond (test i) (f i ∷ []) [])
 
 -- what f gives at each number below the bound
 abbrev pub listed {ℓ} : {A : Type ℓ} → ℕ → (ℕ → A) → List A
