@@ -1,5 +1,3 @@
 -- The laws of this crate that belong to no one function.
 pub mod Stored
-pub mod RecordRow
-pub mod Lent
 pub mod Working

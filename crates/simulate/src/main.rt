@@ -2,8 +2,11 @@
 #![tactic(auto)]
 
 ghost use Rattle.std.specs.Prelude.{◌≡◌, ◌≤◌, length, take};
+ghost use Rattle.std.specs.Io.KnownBytes.{Consumes};
 ghost use Rattle.program.specs.Program.{program_text};
 ghost use Rattle.program.specs.Room.{lent_bytes, text_bytes};
+
+use std::io::Read;
 
 // The bytes that are lent for the listing.
 const LISTING: usize = 60000;
@@ -20,19 +23,35 @@ fn print_whole(input: &[u8], listing: &mut [u8; LISTING], text: &mut [u8; TEXT])
     program::simulate(input, listing, text)
 }
 
-fn main() {
+// Fills the array from its start until it is full, the input ends or a read fails. Answers how many bytes it put there.
+fn read_full<R: Read>(reader: &mut R, input: &mut [u8]) -> usize
+    ensures within { result ≤ length input.new }
+    ensures bytes { Consumes (R.remaining reader.old) (R.remaining reader.new) (take result input.new) }
+{
+    let mut done: usize = 0;
+    while done < input.len() {
+        let n = match reader.read(&mut input[done..]) {
+            Ok(n) => n,
+            Err(_) => 0,
+        };
+        if n == 0 {
+            return done;
+        }
+        done += n;
+    }
+    done
+}
+
+fn main(rt: HostRuntime) {
     let mut input = [0u8; program::INPUT];
-    let n = io::read_full(0, &mut input);
+    let n = read_full(&mut rt.stdin(), &mut input);
     if n == 0 {
-        io::write_all(2, b"simulate: nothing was read from standard input\n");
+        let _ = eprintln!(rt; "simulate: nothing was read from standard input");
     }
     let mut listing = [0u8; LISTING];
     let mut text = [0u8; TEXT];
     let k = print_whole(&input[..n], &mut listing, &mut text);
-    if !io::write_all(1, &text[..k]) {
-        io::write_all(
-            2,
-            b"simulate: standard output did not take the whole text\n",
-        );
+    if rt.stdout().write_all(&text[..k]).is_err() {
+        let _ = eprintln!(rt; "simulate: standard output did not take the whole text");
     }
 }
