@@ -1,4 +1,5 @@
 -- `level::Level::gate` meets its contract: a gate's entry is what its rule comes to, a constant of parameter 0 and a memory of no values come to 0, a further kind to X.
+-- Assumes nothing.
 use Prim.Native.Nat.{◌%◌, ◌<◌}
 use native.Mathlib.Nat.{mod-lt, zero-div, add_assoc}
 use native.Mathlib.Omega.{arith}

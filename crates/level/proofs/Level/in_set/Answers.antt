@@ -1,4 +1,5 @@
 -- `level::Level::in_set` meets its contract: the table of weights has 2 to the power v at each value v.
+-- Assumes nothing.
 use Prim.Native.Nat.{◌^◌}
 use native.Mathlib.Nat.{mod-lt}
 use lib.Dec.{lit<}
