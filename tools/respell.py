@@ -25,6 +25,19 @@ APART = {
     "crates/network/proofs/Runs.antt": ("after_check", "after_check_lem"),
     "crates/pulses/proofs/Exact.antt": ("record_of", "record_shown"),
 }
+# Names that would fall together with a definition's, a condition's or a function's, which keep theirs.
+FIXED = {
+    "driven-at-start": "driven_from_start",
+    "renumbered-listing": "listing_renumbered",
+    "node-count": "counts_nodes",
+    "module-count": "counts_modules",
+    "event-count": "counts_events",
+    "watched-count": "counts_watched",
+    "horizonOutside": "is_horizon_outside",
+    "onLoop": "is_on_loop",
+    "inOrder": "in_order",
+    "noneRead": "nothing_read",
+}
 # Words that the language keeps, or that the operators of the library use.
 KEPT = re.compile(r"^(?:returns|if◌then◌else◌)")
 
@@ -99,9 +112,9 @@ def main(arguments):
     words = {p: set(DELIMITERS.split(re.sub(r"\.[\w'-]+", " ", t))) for p, t in code.items()}
     taken = {}
     for old in sorted(turned, key=lambda n: ("-" in n, n)):
-        new = turned[old]
+        new = FIXED.get(old, turned[old])
         own = [p for p in code if old in tokens[p]]
-        while any(new in words[p] or (p, new) in taken for p in own):
+        while old not in FIXED and any(new in words[p] or (p, new) in taken for p in own):
             new += "_lem" if not new.endswith("_lem") else "'"
         turned[old] = new
         for p in own:

@@ -14,7 +14,7 @@ use Rattle.sheet.specs.Layout.{modules_counted, module_place, module_at, sheet_o
 use Rattle.sheet.specs.Outcome.{finished, refused, outcome_of}
 use Rattle.sheet.specs.Refusal.{Row, rows, first, checked_by, checked}
 use Rattle.sheet.proofs.Each.{each-mem}
-use Rattle.sheet.proofs.Parts.{module_count_lem, module_of_lem}
+use Rattle.sheet.proofs.Parts.{counts_modules, module_of_lem}
 use Rattle.sheet.proofs.Rows.{all_nil, ◌and◌, all_each, first_clear, passed_append, refused_append, both_passed, refused_each}
 use Rattle.format.specs.Accepted.{HasKinds}
 use Rattle.format.specs.Made.{sheet_made}
@@ -50,7 +50,7 @@ module _ (from to : Edition) (s : List ℕ) where
 
   -- an edition that has all kinds
   pub none_refused : checked from s ≡ finished 0 → HasKinds to (sheet_of from s) → first (conversion_rows from to s) ≡ finished 0
-  none_refused ok kinds = own_passed ok ∙ no_kind_above (modules_counted s) (λ k l. rw (module_of_lem from s k l) at (kinds k (rw (module_count_lem from s) l)))
+  none_refused ok kinds = own_passed ok ∙ no_kind_above (modules_counted s) (λ k l. rw (module_of_lem from s k l) at (kinds k (rw (counts_modules from s) l)))
 
   -- and conversely
   pub both_accepted : first (conversion_rows from to s) ≡ finished 0 → (checked from s ≡ finished 0) × HasKinds to (sheet_of from s)
@@ -59,7 +59,7 @@ module _ (from to : Edition) (s : List ℕ) where
       let both = both_passed (rows false from s) (each (modules_counted s) (kind_rows from to s)) e in
       let clear = (first_clear (each (modules_counted s) (kind_rows from to s))).0 both.1 in (
         both.0,
-        λ m h. let l : m < modules_counted s = rw (module_count_lem from s) at h in
+        λ m h. let l : m < modules_counted s = rw (counts_modules from s) at h in
             rw (module_of_lem from s m l) (ltb-false to.greatest (module_at from s m).kind (clear _ ((each-mem (modules_counted s) (kind_rows from to s)).1 (m, l, Memᴰ.head refl)))),
       )
 

@@ -8,7 +8,7 @@ use Rattle.sheet.specs.declared.Edition.{Edition}
 use Rattle.sheet.specs.Enumerate.{each}
 use Rattle.sheet.specs.Layout.{first_edition, second_edition, modules_counted, module_place, delay_place, drive_place}
 use Rattle.sheet.proofs.Each.{each-length}
-use Rattle.sheet.proofs.Parts.{module_count_lem}
+use Rattle.sheet.proofs.Parts.{counts_modules}
 use Rattle.format.specs.Accepted.{Known, the_first, the_second, AcceptedIn}
 use Rattle.format.proofs.Accepted.{few_bytes, conversely}
 use Rattle.format.proofs.Theorems.{longest}
@@ -34,7 +34,7 @@ module _ {from : Edition} (known : Known from) (s : List ℕ) (ok : AcceptedIn f
   records_within = omega (arith, ok.whole)
 
   pub few_modules : modules_counted s ≤ 256
-  few_modules = omega (arith, ok.sheet.modules, module_count_lem from s)
+  few_modules = omega (arith, ok.sheet.modules, counts_modules from s)
 
   pub short_sheet : length s ≤ 65535
   short_sheet = omega (arith, longest known s (conversely from known s ok), few_bytes known)

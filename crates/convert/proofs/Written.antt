@@ -12,7 +12,7 @@ use Rattle.sheet.specs.Enumerate.{each}
 use Rattle.sheet.specs.Layout.{modules_counted, module_place, module_at, drive_place, sheet_of}
 use Rattle.sheet.specs.Sheet.{Sheet}
 use Rattle.sheet.proofs.Each.{each_same}
-use Rattle.sheet.proofs.Parts.{node_count_lem, module_count_lem}
+use Rattle.sheet.proofs.Parts.{counts_nodes, counts_modules}
 use Rattle.format.specs.Accepted.{Known, HasKinds, AcceptedIn, StrictlyAcceptedIn}
 use Rattle.format.specs.Encode.{word_bytes, module_bytes, event_bytes, all_bytes, encode, Bytes}
 use Rattle.format.proofs.AllBytes.{each_bytes, length-all_bytes}
@@ -52,10 +52,10 @@ module _ {from : Edition} (known : Known from) (s : List ℕ) (ok : AcceptedIn f
 
     front_length : length (front S) ≡ records_place s
     unfolding front
-    front_length = simp length-append (omega (arith, node_count_lem from s))
+    front_length = simp length-append (omega (arith, counts_nodes from s))
 
     records_length : length (front S ++ all_bytes (module_bytes from) S.modules) ≡ drive_place from s
-    records_length = length-append (front S) (all_bytes (module_bytes from) S.modules) ∙ rw (front_length, length-all_bytes from.size (module_bytes from) (module_length known) S.modules, module_count_lem from s)
+    records_length = length-append (front S) (all_bytes (module_bytes from) S.modules) ∙ rw (front_length, length-all_bytes from.size (module_bytes from) (module_length known) S.modules, counts_modules from s)
 
     front_stays : take (records_place s) s ≡ front S
     front_stays = ap (take (records_place s)) (parts ∙ append_assoc (front S) (all_bytes (module_bytes from) S.modules) (back S)) ∙ take_at (front S) _ (records_place s) front_length
@@ -86,7 +86,7 @@ module _ {from : Edition} (known : Known from) (s : List ℕ) (ok : AcceptedIn f
         accepted_converted = rw converted-is (written_accepted known' S ok.sheet kinds)
 
         pub strictly_converted : StrictlyAcceptedIn from s → StrictlyAcceptedIn to (converted from to s)
-        strictly_converted strict = rw converted-is (written_strictly known' S ok.sheet kinds strict.driven_at_start_lem)
+        strictly_converted strict = rw converted-is (written_strictly known' S ok.sheet kinds strict.driven_from_start)
 
 -- there and back
 pub back_again : {from to : Edition} (known : Known from) (known' : Known to) (s : List ℕ) (ok : AcceptedIn from s) (bytes : Bytes s) → HasKinds to (sheet_of from s)

@@ -21,9 +21,9 @@ use Rattle.sheet.specs.Layout.{count_size, nodes_counted, node_at, modules_count
 use Rattle.sheet.specs.Wiring.{is_input, driven_at_start}
 use Rattle.sheet.specs.Refusal.{key, checked_by, checked, checked_strictly}
 use Rattle.format.specs.Accepted.{Driven, Input, SoundModule, SoundEvent, Accepted, Known, the_first, the_second, AcceptedIn, DrivenAtStart, StrictlyAcceptedIn}
-use Rattle.format.specs.Condition.{Count, of_nodes, of_modules, of_drive, of_watched, Part, a_count, a_node, a_module, an_event, a_watched, Miswired, output_no_node, input_no_node, unused_not_0, NotAbove, not_above, ConditionBy, ends_inside, outside_range, byte_above, kind_above, parameter_not_allowed, wrong_wiring, delay_above, driven_or_not, tick_above, not_an_input, value_above, not_above_before, no_first_event, wrong_watched, left_over, on_loop_lem}
+use Rattle.format.specs.Condition.{Count, of_nodes, of_modules, of_drive, of_watched, Part, a_count, a_node, a_module, an_event, a_watched, Miswired, output_no_node, input_no_node, unused_not_0, NotAbove, not_above, ConditionBy, ends_inside, outside_range, byte_above, kind_above, parameter_not_allowed, wrong_wiring, delay_above, driven_or_not, tick_above, not_an_input, value_above, not_above_before, no_first_event, wrong_watched, left_over, on_loop}
 use Rattle.sheet.proofs.Tests.{decided, at_most}
-use Rattle.sheet.proofs.Parts.{node_count_lem, node_byte_lem, module_count_lem, module_of_lem, event_count_lem, event_of_lem, watched_count_lem, watched_node_lem}
+use Rattle.sheet.proofs.Parts.{counts_nodes, node_byte_lem, counts_modules, module_of_lem, counts_events, event_of_lem, counts_watched, watched_node_lem}
 use Rattle.format.proofs.Condition.{tells_input, tells_at_start}
 use Rattle.format.proofs.Checked.{finished_iff}
 
@@ -63,16 +63,16 @@ module _ (E : Edition) (s : List ℕ) where
 
   -- a number below a count of the sheet is below that of the bytes
   node : {v : ℕ} → v < node_count S → v < nodes_counted s
-  node h = rw (node_count_lem E s) at h
+  node h = rw (counts_nodes E s) at h
 
   listed_module : {m : ℕ} → m < module_count S → m < modules_counted s
-  listed_module h = rw (module_count_lem E s) at h
+  listed_module h = rw (counts_modules E s) at h
 
   listed_event : {k : ℕ} → k < event_count S → k < events_counted E s
-  listed_event h = rw (event_count_lem E s) at h
+  listed_event h = rw (counts_events E s) at h
 
   listed_watched : {k : ℕ} → k < watched_count S → k < watched_counted E s
-  listed_watched h = rw (watched_count_lem E s) at h
+  listed_watched h = rw (counts_watched E s) at h
 
   -- Without a condition met.
   module _ (known : Known E) {strict : Bool} (none : (n p : ℕ) → ConditionBy strict E s n p → ⊥) where
@@ -108,7 +108,7 @@ module _ (E : Edition) (s : List ℕ) where
         }
 
     sound_modules : (m : ℕ) → m < module_count S → SoundModule (node_count S) (module_of S m)
-    sound_modules m h = subst₂ SoundModule (sym (node_count_lem E s)) (sym (module_of_lem E s m (listed_module h))) (module_sound m (listed_module h))
+    sound_modules m h = subst₂ SoundModule (sym (counts_nodes E s)) (sym (module_of_lem E s m (listed_module h))) (module_sound m (listed_module h))
 
     events_rise : (k : ℕ) → suc k < event_count S → key (event_of S k) < key (event_of S (suc k))
     events_rise k h =
@@ -135,20 +135,20 @@ module _ (E : Edition) (s : List ℕ) where
     sheet_accepted : Accepted S
     sheet_accepted =
         record {
-          some_node = rw (node_count_lem E s) (at_least of_nodes);
-          nodes = rw (node_count_lem E s) (in_range of_nodes);
-          modules = rw (module_count_lem E s) (in_range of_modules);
-          events = rw (event_count_lem E s) (in_range of_drive);
-          watched = rw (watched_count_lem E s) (in_range of_watched);
+          some_node = rw (counts_nodes E s) (at_least of_nodes);
+          nodes = rw (counts_nodes E s) (in_range of_nodes);
+          modules = rw (counts_modules E s) (in_range of_modules);
+          events = rw (counts_events E s) (in_range of_drive);
+          watched = rw (counts_watched E s) (in_range of_watched);
           node_bytes = λ v h. rw (node_byte_lem E s v (node h)) (byte_in_range v (node h));
           sound_modules = sound_modules;
           sound_events = λ k h. rw (event_of_lem E s k (listed_event h)) (event_sound k (listed_event h));
-          watched_nodes = λ k h. subst₂ ◌<◌ (sym (watched_node_lem E s k (listed_watched h))) (sym (node_count_lem E s)) (lt_of_not-le (λ c. none _ _ (wrong_watched k (listed_watched h) (inl c))));
+          watched_nodes = λ k h. subst₂ ◌<◌ (sym (watched_node_lem E s k (listed_watched h))) (sym (counts_nodes E s)) (lt_of_not-le (λ c. none _ _ (wrong_watched k (listed_watched h) (inl c))));
           initial_values = λ v h d. rw (node_byte_lem E s v (node h)) (driven_byte v (node h) d);
           inputs = λ v i. node_byte_lem E s v (node i.node) ∙ input_at v i;
           drive_rises = rises (λ k. key (event_of S k)) (event_count S) events_rise;
           watched_rise = rises (watched_node S) (watched_count S) watched_rises;
-          no_loop = λ v l. none _ _ (on_loop_lem v l);
+          no_loop = λ v l. none _ _ (on_loop v l);
         }
 
     bytes_accepted : AcceptedIn E s
@@ -176,16 +176,16 @@ module _ (E : Edition) (s : List ℕ) (a : AcceptedIn E s) where
   a' = a.sheet
 
   ranged : {p least greatest : ℕ} → Count E s p least greatest → (least ≤ word_at s p) × (word_at s p ≤ greatest)
-  ranged of_nodes = (rw (node_count_lem E s) at a'.some_node, rw (node_count_lem E s) at a'.nodes)
-  ranged of_modules = (zero-le, rw (module_count_lem E s) at a'.modules)
-  ranged of_drive = (zero-le, rw (event_count_lem E s) at a'.events)
-  ranged of_watched = (zero-le, rw (watched_count_lem E s) at a'.watched)
+  ranged of_nodes = (rw (counts_nodes E s) at a'.some_node, rw (counts_nodes E s) at a'.nodes)
+  ranged of_modules = (zero-le, rw (counts_modules E s) at a'.modules)
+  ranged of_drive = (zero-le, rw (counts_events E s) at a'.events)
+  ranged of_watched = (zero-le, rw (counts_watched E s) at a'.watched)
 
   sound : (m : ℕ) → m < modules_counted s → SoundModule (nodes_counted s) (module_at E s m)
-  sound m h = subst₂ SoundModule (node_count_lem E s) (module_of_lem E s m h) (a'.sound_modules m (rw (module_count_lem E s) h))
+  sound m h = subst₂ SoundModule (counts_nodes E s) (module_of_lem E s m h) (a'.sound_modules m (rw (counts_modules E s) h))
 
   sound_at : (k : ℕ) → k < events_counted E s → SoundEvent S' (event_at E s k)
-  sound_at k h = rw (event_of_lem E s k h) at (a'.sound_events k (rw (event_count_lem E s) h))
+  sound_at k h = rw (event_of_lem E s k h) at (a'.sound_events k (rw (counts_events E s) h))
 
   wired : (m : ℕ) → m < modules_counted s → Miswired (nodes_counted s) (module_at E s m) → ⊥
   wired m h (output_no_node c) = not-le_of_lt (sound m h).output c
@@ -196,22 +196,22 @@ module _ (E : Edition) (s : List ℕ) (a : AcceptedIn E s) where
   risen rise _ h (not_above k c) = not-le_of_lt (rise k (suc k) (le_refl (suc k)) h) c
 
   events_risen : (i k : ℕ) → i < k → k < events_counted E s → key (event_at E s i) < key (event_at E s k)
-  events_risen i k l h = subst₂ (λ a b. key a < key b) (event_of_lem E s i (omega arith)) (event_of_lem E s k h) (a'.drive_rises i k l (rw (event_count_lem E s) h))
+  events_risen i k l h = subst₂ (λ a b. key a < key b) (event_of_lem E s i (omega arith)) (event_of_lem E s k h) (a'.drive_rises i k l (rw (counts_events E s) h))
 
   watched_risen : (i k : ℕ) → i < k → k < watched_counted E s → watched_at E s i < watched_at E s k
-  watched_risen i k l h = subst₂ ◌<◌ (watched_node_lem E s i (omega arith)) (watched_node_lem E s k h) (a'.watched_rise i k l (rw (watched_count_lem E s) h))
+  watched_risen i k l h = subst₂ ◌<◌ (watched_node_lem E s i (omega arith)) (watched_node_lem E s k h) (a'.watched_rise i k l (rw (counts_watched E s) h))
 
   started : (v : ℕ) → v < nodes_counted s → (Driven S' v × (node_at s v ≡ input_byte)) ⊎ ((Driven S' v → ⊥) × node_at s v < input_byte) → ⊥
-  started v h (inl c) = omega (arith, a'.initial_values v (rw (node_count_lem E s) h) c.0, node_byte_lem E s v h, c.1)
-  started v h (inr c) = omega (arith, a'.inputs v (record { node = rw (node_count_lem E s) h; undriven = c.0 }), node_byte_lem E s v h, c.1)
+  started v h (inl c) = omega (arith, a'.initial_values v (rw (counts_nodes E s) h) c.0, node_byte_lem E s v h, c.1)
+  started v h (inr c) = omega (arith, a'.inputs v (record { node = rw (counts_nodes E s) h; undriven = c.0 }), node_byte_lem E s v h, c.1)
 
   -- in a strict check, with the inputs' first events
   refuted : {strict : Bool} → (strict ≡ true → (v : ℕ) → Input S' v → DrivenAtStart S' v) → (n p : ℕ) → ConditionBy strict E s n p → ⊥
   refuted first n p (ends_inside part h) = not-le_of_lt h (le_trans (ends part) (le_of_eq (sym a.whole)))
   refuted first n p (outside_range c (inl h)) = not-le_of_lt h (ranged c).0
   refuted first n p (outside_range c (inr h)) = not-le_of_lt h (ranged c).1
-  refuted first n p (byte_above v h c) = not-le_of_lt c (rw (node_byte_lem E s v h) at (a'.node_bytes v (rw (node_count_lem E s) h)))
-  refuted first n p (kind_above m h c) = not-le_of_lt c (rw (module_of_lem E s m h) at (a.kinds m (rw (module_count_lem E s) h)))
+  refuted first n p (byte_above v h c) = not-le_of_lt c (rw (node_byte_lem E s v h) at (a'.node_bytes v (rw (counts_nodes E s) h)))
+  refuted first n p (kind_above m h c) = not-le_of_lt c (rw (module_of_lem E s m h) at (a.kinds m (rw (counts_modules E s) h)))
   refuted first n p (parameter_not_allowed m h c) = not-le_of_lt c (sound m h).parameter
   refuted first n p (wrong_wiring m h c) = wired m h c
   refuted first n p (delay_above m h c) = not-le_of_lt c (sound m h).delay
@@ -221,10 +221,10 @@ module _ (E : Edition) (s : List ℕ) (a : AcceptedIn E s) where
   refuted first n p (value_above k h c) = not-le_of_lt c (sound_at k h).value
   refuted first n p (not_above_before k h c) = risen events_risen k h c
   refuted first n p (no_first_event is v i c) = c (first is v i)
-  refuted first n p (wrong_watched k h (inl c)) = not-le_of_lt (subst₂ ◌<◌ (watched_node_lem E s k h) (node_count_lem E s) (a'.watched_nodes k (rw (watched_count_lem E s) h))) c
+  refuted first n p (wrong_watched k h (inl c)) = not-le_of_lt (subst₂ ◌<◌ (watched_node_lem E s k h) (counts_nodes E s) (a'.watched_nodes k (rw (counts_watched E s) h))) c
   refuted first n p (wrong_watched k h (inr c)) = risen watched_risen k h c
   refuted first n p (left_over c) = not-le_of_lt c (le_of_eq a.whole)
-  refuted first n p (on_loop_lem v c) = a'.no_loop v c
+  refuted first n p (on_loop v c) = a'.no_loop v c
 
 -- a check that is strict or not
 module _ (strict : Bool) (E : Edition) (known : Known E) (s : List ℕ) where
@@ -242,7 +242,7 @@ module _ (E : Edition) (known : Known E) (s : List ℕ) where
   conversely a = finishes false E known s a (λ e. absurd (false≢true e))
 
   pub strictly : checked_strictly E s ≡ finished 0 → StrictlyAcceptedIn E s
-  strictly e = record { accepted = accepted_by true E known s e; driven_at_start_lem = started_at_0 E s known ((finished_iff true E (some_size known) s).0 e) refl }
+  strictly e = record { accepted = accepted_by true E known s e; driven_from_start = started_at_0 E s known ((finished_iff true E (some_size known) s).0 e) refl }
 
   pub strictly_conversely : StrictlyAcceptedIn E s → checked_strictly E s ≡ finished 0
-  strictly_conversely a = finishes true E known s a.accepted (λ _. a.driven_at_start_lem)
+  strictly_conversely a = finishes true E known s a.accepted (λ _. a.driven_from_start)

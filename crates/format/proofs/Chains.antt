@@ -14,7 +14,7 @@ use Rattle.sheet.specs.declared.Module.{Module}
 use Rattle.sheet.specs.Enumerate.{any_of}
 use Rattle.sheet.specs.Sheet.{Sheet, node_count, module_count, module_of}
 use Rattle.sheet.specs.Wiring.{used_inputs}
-use Rattle.sheet.specs.Loop.{Feeds, Chain, link, more, OnLoop, links, leads, leads_over, on_loop}
+use Rattle.sheet.specs.Loop.{Feeds, Chain, link, more, OnLoop, links, leads, leads_over, is_on_loop}
 use Rattle.sheet.proofs.Tests.{Tells, tells_as, tells_eq, tells_and, tells_below, tells_member}
 use Rattle.format.proofs.Over.{via, Over, tells_via, over_new, over_old}
 
@@ -109,7 +109,7 @@ module _ (S : Sheet) where
   pub loop_node : {v : ℕ} → OnLoop S v → v < node_count S
   loop_node o = subst (λ u. u < node_count S) o.output (first_node o.closed)
 
-  pub loop_test : (v : ℕ) → v < node_count S → Tells (on_loop S v) (OnLoop S v)
+  pub loop_test : (v : ℕ) → v < node_count S → Tells (is_on_loop S v) (OnLoop S v)
   loop_test v n = (
     λ t. closed (reaches (node_count S) v v (le_refl (node_count S)) n t),
     λ o. subst (λ (u : ℕ). leads_over S (node_count S) u u ≡ true) o.output (found o.closed),

@@ -10,7 +10,7 @@ use Rattle.sheet.specs.declared.Edition.{Edition}
 use Rattle.sheet.specs.Outcome.{finished, refused}
 use Rattle.sheet.specs.Refusal.{Row, ◌at◌when◌, rows, checked_by}
 use Rattle.format.specs.FirstMet.{FirstMet}
-use Rattle.format.specs.Condition.{ConditionBy, FirstConditionBy, ends_inside, outside_range, byte_above, kind_above, parameter_not_allowed, wrong_wiring, delay_above, driven_or_not, tick_above, not_an_input, value_above, not_above_before, no_first_event, wrong_watched, left_over, on_loop_lem}
+use Rattle.format.specs.Condition.{ConditionBy, FirstConditionBy, ends_inside, outside_range, byte_above, kind_above, parameter_not_allowed, wrong_wiring, delay_above, driven_or_not, tick_above, not_an_input, value_above, not_above_before, no_first_event, wrong_watched, left_over, on_loop}
 use Rattle.sheet.proofs.Tests.{Tells, fails}
 use Rattle.sheet.proofs.Rows.{first_clear, first_answers}
 use Rattle.format.proofs.FirstMet.{refused_iff}
@@ -76,7 +76,7 @@ numbered (not_above_before _ _ _) = (lit≤ tt, lit≤ tt)
 numbered (no_first_event _ _ _ _) = (lit≤ tt, lit≤ tt)
 numbered (wrong_watched _ _ _) = (lit≤ tt, lit≤ tt)
 numbered (left_over _) = (lit≤ tt, lit≤ tt)
-numbered (on_loop_lem _ _) = (lit≤ tt, lit≤ tt)
+numbered (on_loop _ _) = (lit≤ tt, lit≤ tt)
 
 -- a finished run of no record, or a refusal from 2 to 18 that wrote none
 pub answers : (strict : Bool) (E : Edition) → 0 < E.size → (s : List ℕ) → (checked_by strict E s ≡ finished 0) ⊎ ((n : ℕ) × (p : ℕ) × (2 ≤ n) × (n ≤ 18) × (checked_by strict E s ≡ refused n p 0))

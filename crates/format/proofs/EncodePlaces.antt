@@ -33,20 +33,20 @@ module _ {E : Edition} (known : Known E) (sheet : Sheet) (fits : Encodable E she
   nodes_section : Section (encode E sheet) [] sheet.nodes (length sheet.nodes) 0
   nodes_section = section_read _ _ _ _ (nodes_stand E sheet) 0 refl fits.nodes
 
-  pub node_count_lem : nodes_counted (encode E sheet) ≡ length sheet.nodes
-  node_count_lem = nodes_section.known
+  pub counts_nodes : nodes_counted (encode E sheet) ≡ length sheet.nodes
+  counts_nodes = nodes_section.known
 
   pub node_byte_lem : (v d : ℕ) → v < length sheet.nodes → node_at (encode E sheet) v ≡ get_or sheet.nodes v d
   node_byte_lem v d b = stand_at (encode E sheet) _ sheet.nodes d v b nodes_section.there
 
   modules_place_lem : length (nodes_bytes sheet) ≡ modules_place (encode E sheet)
-  modules_place_lem = nodes_section.ends ∙ rw node_count_lem
+  modules_place_lem = nodes_section.ends ∙ rw counts_nodes
 
   modules_section : Section (encode E sheet) (nodes_bytes sheet) (all_bytes (module_bytes E) sheet.modules) (length sheet.modules) (modules_place (encode E sheet))
   modules_section = section_read _ _ _ _ (modules_stand E sheet) _ modules_place_lem fits.modules
 
-  pub module_count_lem : modules_counted (encode E sheet) ≡ length sheet.modules
-  module_count_lem = modules_section.known
+  pub counts_modules : modules_counted (encode E sheet) ≡ length sheet.modules
+  counts_modules = modules_section.known
 
   pub module_of_lem : (m : ℕ) (d : Module) → m < length sheet.modules → module_at E (encode E sheet) m ≡ get_or sheet.modules m d
   module_of_lem m d b =
@@ -54,13 +54,13 @@ module _ {E : Edition} (known : Known E) (sheet : Sheet) (fits : Encodable E she
       (record_stands (encode E sheet) E.size (module_bytes E) (module_length known) _ sheet.modules d m b modules_section.there)
 
   drive_place_lem : length (modules_bytes E sheet) ≡ drive_place E (encode E sheet)
-  drive_place_lem = modules_section.ends ∙ rw (length-all_bytes E.size (module_bytes E) (module_length known) sheet.modules, module_count_lem)
+  drive_place_lem = modules_section.ends ∙ rw (length-all_bytes E.size (module_bytes E) (module_length known) sheet.modules, counts_modules)
 
   drive_section : Section (encode E sheet) (modules_bytes E sheet) (all_bytes event_bytes sheet.drive) (length sheet.drive) (drive_place E (encode E sheet))
   drive_section = section_read _ _ _ _ (drive_stands E sheet) _ drive_place_lem fits.drive
 
-  pub event_count_lem : events_counted E (encode E sheet) ≡ length sheet.drive
-  event_count_lem = drive_section.known
+  pub counts_events : events_counted E (encode E sheet) ≡ length sheet.drive
+  counts_events = drive_section.known
 
   pub event_of_lem : (e : ℕ) (d : Event) → e < length sheet.drive → event_at E (encode E sheet) e ≡ get_or sheet.drive e d
   event_of_lem e d b =
@@ -68,31 +68,31 @@ module _ {E : Edition} (known : Known E) (sheet : Sheet) (fits : Encodable E she
       (record_stands (encode E sheet) event_size event_bytes (λ r. refl) _ sheet.drive d e b drive_section.there)
 
   watched_place_lem : length (drive_bytes E sheet) ≡ watched_place E (encode E sheet)
-  watched_place_lem = drive_section.ends ∙ rw (length-all_bytes event_size event_bytes (λ r. refl) sheet.drive, event_count_lem)
+  watched_place_lem = drive_section.ends ∙ rw (length-all_bytes event_size event_bytes (λ r. refl) sheet.drive, counts_events)
 
   watched_section : Section (encode E sheet) (drive_bytes E sheet) sheet.watched (length sheet.watched) (watched_place E (encode E sheet))
   unfolding encode
   watched_section = section_read _ _ _ _ (span_whole (encode E sheet)) _ watched_place_lem fits.watched
 
-  pub watched_count_lem : watched_counted E (encode E sheet) ≡ length sheet.watched
-  watched_count_lem = watched_section.known
+  pub counts_watched : watched_counted E (encode E sheet) ≡ length sheet.watched
+  counts_watched = watched_section.known
 
   pub watched_node_lem : (k d : ℕ) → k < length sheet.watched → watched_at E (encode E sheet) k ≡ get_or sheet.watched k d
   watched_node_lem k d b = stand_at (encode E sheet) _ sheet.watched d k b watched_section.there
 
   pub encode_whole : length (encode E sheet) ≡ sheet_end E (encode E sheet)
   unfolding encode
-  encode_whole = watched_section.ends ∙ ap (λ n. watched_place E (encode E sheet) + count_size + n) (sym watched_count_lem)
+  encode_whole = watched_section.ends ∙ ap (λ n. watched_place E (encode E sheet) + count_size + n) (sym counts_watched)
 
   pub read_encode : sheet_of E (encode E sheet) ≡ sheet
   unfolding sheet_of
   read_encode =
       λ i.
       record {
-        nodes = listed-is sheet.nodes 0 (nodes_counted s) (node_at s) node_count_lem (λ v b. node_byte_lem v 0 b) i;
-        modules = listed-is sheet.modules no_module (modules_counted s) (module_at E s) module_count_lem (λ m b. module_of_lem m no_module b) i;
-        drive = listed-is sheet.drive no_event (events_counted E s) (event_at E s) event_count_lem (λ e b. event_of_lem e no_event b) i;
-        watched = listed-is sheet.watched 0 (watched_counted E s) (watched_at E s) watched_count_lem (λ k b. watched_node_lem k 0 b) i;
+        nodes = listed-is sheet.nodes 0 (nodes_counted s) (node_at s) counts_nodes (λ v b. node_byte_lem v 0 b) i;
+        modules = listed-is sheet.modules no_module (modules_counted s) (module_at E s) counts_modules (λ m b. module_of_lem m no_module b) i;
+        drive = listed-is sheet.drive no_event (events_counted E s) (event_at E s) counts_events (λ e b. event_of_lem e no_event b) i;
+        watched = listed-is sheet.watched 0 (watched_counted E s) (watched_at E s) counts_watched (λ k b. watched_node_lem k 0 b) i;
       }
     where
       s : List ℕ

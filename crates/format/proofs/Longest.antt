@@ -22,7 +22,7 @@ use Rattle.format.specs.Accepted.{Driven, Input, SoundModule, Accepted, Known, t
 use Rattle.format.specs.Encode.{room_for_inputs, encode, Bytes, Encodable, OneByteEach}
 use Rattle.format.proofs.Accepted.{strictly_conversely}
 use Rattle.format.proofs.EncodeBytes.{encode_bytes}
-use Rattle.format.proofs.EncodePlaces.{node_count_lem, module_count_lem, event_count_lem, watched_count_lem, encode_whole, read_encode}
+use Rattle.format.proofs.EncodePlaces.{counts_nodes, counts_modules, counts_events, counts_watched, encode_whole, read_encode}
 
 -- node 0 is an input, and every other node begins at 0
 abbrev byte_of : ℕ → ℕ
@@ -188,12 +188,12 @@ module _ {E : Edition} (known : Known E) where
   strictly : StrictlyAcceptedIn E (encode E full)
   strictly =
       let back = read_encode known full fits in
-      record { accepted = record { sheet = rw back accepted; kinds = rw back kinds; whole = encode_whole known full fits }; driven_at_start_lem = rw back started }
+      record { accepted = record { sheet = rw back accepted; kinds = rw back kinds; whole = encode_whole known full fits }; driven_from_start = rw back started }
 
   long : length (encode E full) ≡ 6664 + E.size * 256
   long =
       encode_whole known full fits
-      ∙ omega (arith, node_count_lem known full fits ∙ nodes, ap (λ n. E.size * n) (module_count_lem known full fits ∙ modules), event_count_lem known full fits ∙ events, watched_count_lem known full fits ∙ watched)
+      ∙ omega (arith, counts_nodes known full fits ∙ nodes, ap (λ n. E.size * n) (counts_modules known full fits ∙ modules), counts_events known full fits ∙ events, counts_watched known full fits ∙ watched)
 
   pub full_accepted : (s : List ℕ) × Bytes s × (length s ≡ 6664 + E.size * 256) × (checked_strictly E s ≡ finished 0)
   full_accepted = (encode E full, encode_bytes E full one_byte_each, long, strictly_conversely E known (encode E full) strictly)

@@ -16,7 +16,7 @@ use Rattle.sheet.specs.Loop.{leads_over}
 use Rattle.sheet.specs.Outcome.{refused}
 use Rattle.sheet.specs.Refusal.{Row, count_rows, module_rows, start_rows, not_above_event, not_above_watched, nodes_section, modules_section, drive_section, first_events_section, watched_section, left_over_rows, loops_section, bytes_rows, rows, first, checked_by}
 use Rattle.sheet.proofs.Computed.{shared}
-use Rattle.sheet.proofs.Parts.{module_count_lem, module_of_lem}
+use Rattle.sheet.proofs.Parts.{counts_modules, module_of_lem}
 use Rattle.sheet.proofs.Rows.{All, all_nil, ◌and◌}
 use Rattle.sheet.proofs.Tests.{tells_below, tells_eq}
 use Rattle.format.specs.OneDriver.{OneDriver, already_driven_rows, modules_section_with9, rows_with9, checked_with9}
@@ -61,7 +61,7 @@ module _ (E : Edition) (s : List ℕ) where
       let m = q.driver in
       let out = (module_at E s m).output in
       let other = (tells_below m (λ a. eqb (output_of S a) out) (λ a. tells_eq (output_of S a) out)).0 q.earlier in
-      let listed : m < module_count S = rw (module_count_lem E s) q.listed in
+      let listed : m < module_count S = rw (counts_modules E s) q.listed in
       let is = one other.0 m (omega (arith, other.1, listed)) listed (other.2 ∙ sym (ap (λ r. r.output) (module_of_lem E s m q.listed))) in
       omega (arith, is, other.1)
 

@@ -17,9 +17,9 @@ use Rattle.sheet.specs.Wiring.{is_input}
 use Rattle.sheet.specs.Loop.{OnLoop}
 use Rattle.sheet.specs.Refusal.{Row, ◌at◌when◌, outside, greatest_parameter, key, count_rows, node_rows, module_rows, start_rows, event_rows, first_event_rows, first_events_section, watched_rows, left_over_rows, loop_rows, bytes_rows, rows}
 use Rattle.format.specs.Accepted.{Driven, Input, DrivenAtStart}
-use Rattle.format.specs.Condition.{Count, of_nodes, of_modules, of_drive, of_watched, Part, a_count, a_node, a_module, an_event, a_watched, Miswired, NotAbove, ConditionBy, ends_inside, outside_range, byte_above, kind_above, parameter_not_allowed, wrong_wiring, delay_above, driven_or_not, tick_above, not_an_input, value_above, not_above_before, no_first_event, wrong_watched, left_over, on_loop_lem}
+use Rattle.format.specs.Condition.{Count, of_nodes, of_modules, of_drive, of_watched, Part, a_count, a_node, a_module, an_event, a_watched, Miswired, NotAbove, ConditionBy, ends_inside, outside_range, byte_above, kind_above, parameter_not_allowed, wrong_wiring, delay_above, driven_or_not, tick_above, not_an_input, value_above, not_above_before, no_first_event, wrong_watched, left_over, on_loop}
 use Rattle.sheet.proofs.Tests.{Tells, tells_as, tells_lt, tells_not, tells_outside}
-use Rattle.sheet.proofs.Parts.{node_count_lem}
+use Rattle.sheet.proofs.Parts.{counts_nodes}
 use Rattle.sheet.proofs.Rows.{All, all_nil, ◌and◌, ◌then◌, all_each, all_where}
 use Rattle.format.proofs.Sections.{in_count, in_node, in_module, in_event, in_watched_node, in_start, in_first_event, in_left_over, in_bytes, in_loop}
 use Rattle.format.proofs.Condition.{tells_input, tells_miswired, tells_start, tells_event, tells_first_event, tells_wrong_watched}
@@ -73,7 +73,7 @@ says (not_above_before e h c) = (e, refl, c)
 says (no_first_event is v i c) = (is, i, c)
 says (wrong_watched k h c) = (k, refl, c)
 says (left_over c) = c
-says (on_loop_lem v c) = c
+says (on_loop v c) = c
 
 -- no condition is 9's
 pub none_at_9 : {strict : Bool} {E : Edition} {s : List ℕ} {p : ℕ} → ConditionBy strict E s 9 p → ⊥
@@ -159,7 +159,7 @@ module _ (strict : Bool) (E : Edition) (some : 0 < E.size) (s : List ℕ) where
   left_over_told = by_order (sheet_end E s) (length s) left_over says and all_nil (Told strict E s)
 
   loop_told : (v : ℕ) → v < node_count (sheet_of E s) → All (Told strict E s) (loop_rows (sheet_of E s) v)
-  loop_told v h = tells_as (loop_test (sheet_of E s) v h) (on_loop_lem v, says) and all_nil (Told strict E s)
+  loop_told v h = tells_as (loop_test (sheet_of E s) v h) (on_loop v, says) and all_nil (Told strict E s)
 
   -- front to back
   rows_told : All (Told strict E s) (rows strict E s)
@@ -201,10 +201,10 @@ module _ (strict : Bool) (E : Edition) (some : 0 < E.size) (s : List ℕ) where
   stands (not_an_input e h c) = of_bytes (in_event strict E s e h (later (later here)))
   stands (value_above e h c) = of_bytes (in_event strict E s e h (later (later (later here))))
   stands (not_above_before e h c) = of_bytes (in_event strict E s e h (later (later (later (later here)))))
-  stands (no_first_event is v i c) = of_bytes (in_first_event strict E s is v (rw (node_count_lem E s) at i.node) here)
+  stands (no_first_event is v i c) = of_bytes (in_first_event strict E s is v (rw (counts_nodes E s) at i.node) here)
   stands (wrong_watched k h c) = of_bytes (in_watched_node strict E s k h (later here))
   stands (left_over c) = of_bytes (in_left_over strict E s here)
-  stands (on_loop_lem v c) = (_, in_loop strict E s v (loop_node (sheet_of E s) c) here)
+  stands (on_loop v c) = (_, in_loop strict E s v (loop_node (sheet_of E s) c) here)
 
 -- each row of the table: its test passes exactly when its condition is met
 pub row_tells : (strict : Bool) (E : Edition) → 0 < E.size → (s : List ℕ) (r : Row) → Memᴰ r (rows strict E s) → Tells r.met (ConditionBy strict E s r.number r.place)

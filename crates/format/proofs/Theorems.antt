@@ -15,7 +15,7 @@ use Rattle.sheet.specs.Layout.{first_edition, second_edition, modules_counted, s
 use Rattle.sheet.specs.Outcome.{finished, refused}
 use Rattle.sheet.specs.Loop.{LeastOnLoop}
 use Rattle.sheet.specs.Refusal.{bytes_rows, first, checked_by, checked, checked_strictly}
-use Rattle.sheet.proofs.Parts.{node_count_lem, module_count_lem, module_of_lem, event_count_lem, watched_count_lem}
+use Rattle.sheet.proofs.Parts.{counts_nodes, counts_modules, module_of_lem, counts_events, counts_watched}
 use Rattle.format.specs.Accepted.{Before, Accepted, Known, the_first, the_second, AcceptedIn, StrictlyAcceptedIn}
 use Rattle.format.specs.Encode.{encode, Bytes, Encodable, OneByteEach}
 use Rattle.format.specs.Condition.{ConditionBy, FirstConditionBy}
@@ -87,8 +87,8 @@ pub longest : {E : Edition} → Known E → (s : List ℕ) → checked E s ≡ f
 longest {E} known s c =
     let acc = accepted E known s c in
     let a = acc.sheet in
-    let few : modules_counted s ≤ 256 = omega (arith, a.modules, module_count_lem E s) in
-    omega (arith, acc.whole, a.nodes, node_count_lem E s, mul-le-mul_left E.size few, a.events, event_count_lem E s, a.watched, watched_count_lem E s)
+    let few : modules_counted s ≤ 256 = omega (arith, a.modules, counts_modules E s) in
+    omega (arith, acc.whole, a.nodes, counts_nodes E s, mul-le-mul_left E.size few, a.events, counts_events E s, a.watched, counts_watched E s)
 
 -- Document 01, "The program", gives 8,456 bytes; the second edition allows 256 more.
 pub longest_sheet : (s : List ℕ) → checked first_edition s ≡ finished 0 → length s ≤ 8456
@@ -111,4 +111,4 @@ no_third s m = by (ltb m (modules_counted s)) refl
     by : (b : Bool) → ltb m (modules_counted s) ≡ b → (module_of (sheet_of first_edition s) m).third ≡ 0
     by true e = ap (λ r. r.third) (module_of_lem first_edition s m (ltb-true m (modules_counted s) e))
     by false e =
-        ap (λ r. r.third) (get_or-eq_default (sheet_of first_edition s).modules no_module {n = m} (omega (arith, ltb-false m (modules_counted s) e, module_count_lem first_edition s)))
+        ap (λ r. r.third) (get_or-eq_default (sheet_of first_edition s).modules no_module {n = m} (omega (arith, ltb-false m (modules_counted s) e, counts_modules first_edition s)))

@@ -92,4 +92,4 @@ pub record DrivenAtStart (S : Sheet) (v : ℕ) : Type 0 where
 -- Bytes that a strict check does not refuse either: every input is driven at tick 0 as well.
 pub record StrictlyAcceptedIn (e : Edition) (s : List ℕ) : Type 0 where
   pub accepted : AcceptedIn e s
-  pub driven_at_start_lem : (v : ℕ) → Input (sheet_of e s) v → DrivenAtStart (sheet_of e s) v
+  pub driven_from_start : (v : ℕ) → Input (sheet_of e s) v → DrivenAtStart (sheet_of e s) v

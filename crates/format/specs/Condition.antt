@@ -69,7 +69,7 @@ module _ (strict : Bool) (e : Edition) (s : List ℕ) where
         → ConditionBy 16 (watch_place e s k)
     -- after the watched: bytes left over; then a zero-delay loop
     left_over : sheet_end e s < length s → ConditionBy 17 (sheet_end e s)
-    on_loop_lem : (v : ℕ) → OnLoop (sheet_of e s) v → ConditionBy 18 v
+    on_loop : (v : ℕ) → OnLoop (sheet_of e s) v → ConditionBy 18 v
 
   -- A row of the table, front to back: the condition of its number is met at its place, and none is of a row before it.
   pub record FirstConditionBy (number place : ℕ) : Type 0 where

@@ -12,7 +12,7 @@ use Rattle.sheet.specs.Layout.{nodes_counted, node_at, sheet_of}
 use Rattle.sheet.specs.Limits.{input_byte}
 use Rattle.sheet.specs.Sheet.{node_byte}
 use Rattle.sheet.proofs.Chosen.{chosen_same, chosen_few}
-use Rattle.sheet.proofs.Parts.{node_count_lem, node_byte_lem}
+use Rattle.sheet.proofs.Parts.{counts_nodes, node_byte_lem}
 use Rattle.format.specs.Accepted.{AcceptedIn}
 use Rattle.lent.specs.Lent.{Prints}
 use Rattle.lent.proofs.Putting.{none-printed, whole}
@@ -26,11 +26,11 @@ module _ (e : Edition) (s : List ℕ) (ok : AcceptedIn e s) where
   by_bytes : found ≡ inputs_in e s
   by_bytes =
       chosen_same (nodes_counted s) _ (λ v. eqb (node_byte (sheet_of e s) v) input_byte) _ (λ v. v) (λ v h. ap (λ b. eqb b input_byte) (sym (node_byte_lem e s v h))) (λ v h t. refl)
-      ∙ ap (λ k. chosen k (λ v. eqb (node_byte (sheet_of e s) v) input_byte) (λ v. v)) (sym (node_count_lem e s))
+      ∙ ap (λ k. chosen k (λ v. eqb (node_byte (sheet_of e s) v) input_byte) (λ v. v)) (sym (counts_nodes e s))
       ∙ sym (inputs_by_bytes (sheet_of e s) ok.sheet)
 
   few : length found ≤ 256
-  few = omega (arith, chosen_few (nodes_counted s) (λ v. eqb (node_at s v) input_byte) (λ v. v), ok.sheet.nodes, node_count_lem e s)
+  few = omega (arith, chosen_few (nodes_counted s) (λ v. eqb (node_at s v) input_byte) (λ v. v), ok.sheet.nodes, counts_nodes e s)
 
   -- in an array of 256 numbers, of which the first so many are the inputs
   module _ {array after : List ℕ} {count : ℕ} (room : length array ≡ 256) (put : Prints found array 0 after count) where

@@ -7,7 +7,7 @@ use Prim.Native.Nat.{ℕ, ◌+◌, ◌-◌, ◌*◌, ◌≤◌}
 use Rattle.sheet.specs.declared.Edition.{Edition}
 use Rattle.sheet.specs.declared.Event.{Event}
 use Rattle.sheet.specs.Layout.{nodes_counted, drive_place, watched_place, sheet_of}
-use Rattle.sheet.proofs.Parts.{node_count_lem}
+use Rattle.sheet.proofs.Parts.{counts_nodes}
 use Rattle.format.specs.Accepted.{Known, AcceptedIn}
 use Rattle.format.proofs.Accepted.{few_bytes, conversely}
 use Rattle.format.proofs.Theorems.{longest}
@@ -34,7 +34,7 @@ module _ {e : Edition} (known : Known e) (s : List ℕ) (ok : AcceptedIn e s) wh
   short_sheet = omega (arith, longest known s (conversely e known s ok), few_bytes known)
 
   pub few_nodes : nodes_counted s ≤ 256
-  few_nodes = omega (arith, ok.sheet.nodes, node_count_lem e s)
+  few_nodes = omega (arith, ok.sheet.nodes, counts_nodes e s)
 
   pub inputs_below : length (inputs_in e s) ≤ 256
   inputs_below = omega (arith, few_inputs (sheet_of e s), ok.sheet.nodes)

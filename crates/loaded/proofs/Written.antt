@@ -13,7 +13,7 @@ use Rattle.sheet.specs.declared.Event.{Event}
 use Rattle.sheet.specs.Layout.{event_size, drive_place, watched_place, sheet_of}
 use Rattle.sheet.specs.Limits.{most_events}
 use Rattle.sheet.specs.Sheet.{Sheet, no_event}
-use Rattle.sheet.proofs.Parts.{node_count_lem, module_count_lem, event_count_lem}
+use Rattle.sheet.proofs.Parts.{counts_nodes, counts_modules, counts_events}
 use Rattle.format.specs.Accepted.{Input, SoundEvent, Accepted, Known, HasKinds, AcceptedIn, DrivenAtStart, StrictlyAcceptedIn}
 use Rattle.format.specs.Encode.{word_bytes, module_bytes, event_bytes, all_bytes, encode, Bytes}
 use Rattle.format.proofs.AllBytes.{length-all_bytes}
@@ -58,10 +58,10 @@ module _ {e : Edition} (known : Known e) (s : List ℕ) (ok : AcceptedIn e s) wh
     front_length : length (front e S) ≡ drive_place e s
     unfolding front
     front_length =
-        simp length-append (omega (arith, node_count_lem e s, length-all_bytes e.size (module_bytes e) (module_length known) S.modules, ap (λ n. e.size * n) (module_count_lem e s)))
+        simp length-append (omega (arith, counts_nodes e s, length-all_bytes e.size (module_bytes e) (module_length known) S.modules, ap (λ n. e.size * n) (counts_modules e s)))
 
     section_ends : length (front e S ++ drive_bytes S.drive) ≡ watched_place e s
-    section_ends = length-append (front e S) (drive_bytes S.drive) ∙ omega (arith, front_length, drive_length S.drive, event_count_lem e s)
+    section_ends = length-append (front e S) (drive_bytes S.drive) ∙ omega (arith, front_length, drive_length S.drive, counts_events e s)
 
     front_stays : take (drive_place e s) s ≡ front e S
     front_stays = ap (take (drive_place e s)) (parts ∙ append_assoc (front e S) (drive_bytes S.drive) (back S)) ∙ take_at (front e S) _ (drive_place e s) front_length

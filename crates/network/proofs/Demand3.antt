@@ -19,7 +19,7 @@ use Rattle.network.specs.Ends.{ended_listing}
 use Rattle.network.specs.Order.{Listed, ValidOrder}
 use Rattle.network.specs.Renumbering.{Permutation, renumbered, renumbered_bytes, renumbered_listing}
 use Rattle.network.specs.Buffer.{buffer_after}
-use Rattle.network.specs.Run.{RunLeaves, cells_of, horizon_outside, ran, written_of}
+use Rattle.network.specs.Run.{RunLeaves, cells_of, is_horizon_outside, ran, written_of}
 use Rattle.network.specs.Timeline.{Cells, at, contribution}
 use Rattle.network.specs.Working.{worked}
 use Rattle.format.proofs.Accepted.{accepted, conversely, strictly, strictly_conversely}
@@ -31,7 +31,7 @@ use Rattle.network.proofs.Permuting.{to_once}
 use Rattle.network.proofs.PullBack.{contribution-renumbered, pull_back}
 use Rattle.network.proofs.Renumbered.{module_count-renumbered, module_of-renumbered}
 use Rattle.network.proofs.RenumberedAccepted.{accepted_renumbered, started}
-use Rattle.network.proofs.RenumberedListing.{Rewatched, renumbered-length, renumbered_listing_lem}
+use Rattle.network.proofs.RenumberedListing.{Rewatched, renumbered-length, listing_renumbered}
 use Rattle.network.proofs.Runs.{accepted_run, in_range, only, ran_satisfied, ran_sheet_lem, satisfied}
 use Rattle.network.proofs.WorkingOrder.{working_order_lem}
 use Rattle.network.proofs.Written.{read_back, written_bytes, written_accepted, written_strictly}
@@ -66,7 +66,7 @@ module _ (N : Sheet) (acc : Accepted N) (π : Permutation (node_count N)) (order
   agree horizon bytes ordersN ordersP valid-N valid-P =
       record {
         cells = same;
-        listings = renumbered_listing_lem N P π.to rewatched n q horizon watched_same;
+        listings = listing_renumbered N P π.to rewatched n q horizon watched_same;
         answers =
             same_answer N P n q horizon bytes (renumbered-length N P π.to rewatched n q horizon watched_same)
             (λ t h. pending-renumbered N π order each-once n q horizon contributed_same t);
@@ -123,7 +123,7 @@ module _ {E : Edition} (known : Known E) (s : List ℕ) (ok : AcceptedIn E s) (�
   pub strictly_renumbered : checked_strictly E s ≡ finished 0 → checked_strictly E p ≡ finished 0
   strictly_renumbered e =
       strictly_conversely E known p
-      (written_strictly known Q accepted_sheet kinds_renumbered (started (sheet_of E s) ok.sheet π order each-once (strictly E known s e).driven_at_start_lem))
+      (written_strictly known Q accepted_sheet kinds_renumbered (started (sheet_of E s) ok.sheet π order each-once (strictly E known s e).driven_from_start))
 
 pub demand_3 : {E : Edition} → Known E → (s : List ℕ) (horizon bytes : ℕ) → RunsToHorizon E s horizon bytes
     → (π : Permutation (node_count (sheet_of E s))) (order : List ℕ) → Listed (module_count (sheet_of E s)) order
@@ -135,7 +135,7 @@ demand_3 {E} known s horizon bytes runs π order each-once ordersN ordersP valid
       listing_of_N = listing_of_N;
       listing_of_P = listing_of_P;
       same_answer = ap (λ w. w.answer) run_of_P ∙ both.answers ∙ ap (λ w. w.answer) (sym run_of_N);
-      renumbered_listing_lem = listing_of_P ∙ both.listings ∙ ap (renumbered_listing π.to) (sym listing_of_N);
+      listing_renumbered = listing_of_P ∙ both.listings ∙ ap (renumbered_listing π.to) (sym listing_of_N);
       satisfied_by_N = satisfied N ok.sheet horizon ordersN valid-N;
       satisfied_by_P = satisfied P' ok_P.sheet horizon ordersP valid-P;
       only_N = only N ok.sheet horizon ordersN valid-N;
@@ -157,7 +157,7 @@ demand_3 {E} known s horizon bytes runs π order each-once ordersN ordersP valid
     q : Cells
     q = worked_from E p' horizon ordersP
 
-    range : horizon_outside horizon ≡ false
+    range : is_horizon_outside horizon ≡ false
     range = in_range E s horizon bytes runs
 
     ok : AcceptedIn E s
@@ -215,7 +215,7 @@ pub renumbered_run : {E : Edition} → Known E → (s : List ℕ) (horizon count
     → (answerP ≡ answerN) × (afterP ≡ buffer_after (renumbered_listing π.to (ran E s horizon (length bufferN)).records) bufferP)
 renumbered_run {E} known s horizon count π order each-once bufferN bufferP afterN afterP answerN answerP room N P done = (
   P.answered ∙ ap (λ b. (ran E p' horizon b).answer) room ∙ same.same_answer ∙ sym N.answered,
-  P.left ∙ ap (λ b. buffer_after (ran E p' horizon b).records bufferP) room ∙ ap (λ records. buffer_after records bufferP) same.renumbered_listing_lem,
+  P.left ∙ ap (λ b. buffer_after (ran E p' horizon b).records bufferP) room ∙ ap (λ records. buffer_after records bufferP) same.listing_renumbered,
 )
   where
     p' : List ℕ

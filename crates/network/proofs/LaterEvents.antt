@@ -15,7 +15,7 @@ use Rattle.sheet.specs.Refusal.{checked}
 use Rattle.sheet.specs.Sheet.{Sheet}
 use Rattle.format.specs.Accepted.{Accepted, Known}
 use Rattle.network.specs.LaterEvents.{events_below, SameBelow}
-use Rattle.network.specs.Run.{cells_of, horizon_outside, ran, ran_sheet, written_of}
+use Rattle.network.specs.Run.{cells_of, is_horizon_outside, ran, ran_sheet, written_of}
 use Rattle.network.specs.Satisfied.{Satisfied}
 use Rattle.network.specs.Timeline.{Cells, given, drive_cell}
 use Rattle.format.proofs.Accepted.{accepted}
@@ -60,7 +60,7 @@ module _ (S : Sheet) (drive : List Event) (horizon : ℕ) (same : events_below h
 
 pub no_effect : {E : Edition} → Known E → (s p : List ℕ) → checked E s ≡ finished 0 → checked E p ≡ finished 0 → (horizon : ℕ)
     → SameBelow horizon (sheet_of E s) (sheet_of E p) → (bytes : ℕ) → ran E p horizon bytes ≡ ran E s horizon bytes
-no_effect {E} known s p c d horizon same bytes = by (horizon_outside horizon) refl
+no_effect {E} known s p c d horizon same bytes = by (is_horizon_outside horizon) refl
   where
     S : Sheet
     S = sheet_of E s
@@ -73,6 +73,6 @@ no_effect {E} known s p c d horizon same bytes = by (horizon_outside horizon) re
         ap (λ P. ran_sheet P horizon bytes) is_driven
         ∙ run_alike S (sheet_of E p).drive horizon same.drive (accepted E known s c).sheet (subst Accepted is_driven (accepted E known p d).sheet) bytes
 
-    by : (b : Bool) → horizon_outside horizon ≡ b → ran E p horizon bytes ≡ ran E s horizon bytes
+    by : (b : Bool) → is_horizon_outside horizon ≡ b → ran E p horizon bytes ≡ ran E s horizon bytes
     by true out = ran-outside E p horizon bytes out ∙ sym (ran-outside E s horizon bytes out)
     by false range = ran_sheet_lem E p horizon bytes range d ∙ alike ∙ sym (ran_sheet_lem E s horizon bytes range c)

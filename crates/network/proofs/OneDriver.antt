@@ -29,7 +29,7 @@ use Rattle.network.specs.Buffer.{room}
 use Rattle.network.specs.Ends.{ended_listing}
 use Rattle.network.specs.Listing.{changes, listing, pending_of, pending}
 use Rattle.network.specs.OneDriver.{SatisfiedByOne, pending_at_output, pending_at_outputs, tick_rows_before, written_before, ran_before}
-use Rattle.network.specs.Run.{horizon_outside, ran, tick_rows, first_tick, written_of, unless_refused, wrote}
+use Rattle.network.specs.Run.{is_horizon_outside, ran, tick_rows, first_tick, written_of, unless_refused, wrote}
 use Rattle.network.specs.Satisfied.{Satisfied}
 use Rattle.network.specs.Timeline.{Cells, contribution, contributions, driven_cell}
 use Rattle.network.proofs.Passing.{passes, passing}
@@ -74,7 +74,7 @@ module _ (S : Sheet) (one : OneDriver S) (c : Cells) where
 -- over bytes, and any set of timelines that satisfies the sheet as it was said before
 pub run_as_before : {E : Edition} → Known E → (s : List ℕ) → OneDriver (sheet_of E s) → (horizon : ℕ) (c : Cells) → (checked E s ≡ finished 0 → SatisfiedByOne (sheet_of E s) horizon c)
     → (bytes : ℕ) → ran E s horizon bytes ≡ ran_before E s c horizon bytes
-run_as_before {E} known s one horizon c sat bytes = by (horizon_outside horizon) refl
+run_as_before {E} known s one horizon c sat bytes = by (is_horizon_outside horizon) refl
   where
     S : Sheet
     S = sheet_of E s
@@ -82,7 +82,7 @@ run_as_before {E} known s one horizon c sat bytes = by (horizon_outside horizon)
     before : {o : Outcome} → checked E s ≡ o → unless_refused o (written_before (sheet_of E s) c horizon bytes) ≡ unless_refused (checked_with9 false E s) (written_before (sheet_of E s) c horizon bytes)
     before e = ap (λ o. unless_refused o (written_before (sheet_of E s) c horizon bytes)) (sym e ∙ sym (checked_as_before false E s one))
 
-    in_range : horizon_outside horizon ≡ false → (checked E s ≡ finished 0) ⊎ ((n : ℕ) × (p : ℕ) × (checked E s ≡ refused n p 0))
+    in_range : is_horizon_outside horizon ≡ false → (checked E s ≡ finished 0) ⊎ ((n : ℕ) × (p : ℕ) × (checked E s ≡ refused n p 0))
         → ran E s horizon bytes ≡ unless_refused (checked_with9 false E s) (written_before (sheet_of E s) c horizon bytes)
     in_range range (inl e) =
         ran_sheet_lem E s horizon bytes range e
@@ -91,6 +91,6 @@ run_as_before {E} known s one horizon c sat bytes = by (horizon_outside horizon)
         ∙ before e
     in_range range (inr (n, p, e)) = ran_refused E s horizon bytes range e ∙ before e
 
-    by : (b : Bool) → horizon_outside horizon ≡ b → ran E s horizon bytes ≡ (if b then wrote (refused 1 0 0) [] else unless_refused (checked_with9 false E s) (written_before (sheet_of E s) c horizon bytes))
+    by : (b : Bool) → is_horizon_outside horizon ≡ b → ran E s horizon bytes ≡ (if b then wrote (refused 1 0 0) [] else unless_refused (checked_with9 false E s) (written_before (sheet_of E s) c horizon bytes))
     by true out = ran-outside E s horizon bytes out
     by false range = in_range range (checks E s)

@@ -98,12 +98,12 @@ module _ (S P : Sheet) (to : ℕ → ℕ) (w : Rewatched S P to) where
         let z = w.apart a.start.node b.start.node f g (omega arith) in
         omega arith
 
-    pub renumbered_listing_lem : ended_listing P q horizon ≡ renumbered_listing to (ended_listing S n horizon)
-    renumbered_listing_lem = sym (sort-is ended_key (map (renumbered_ended to) (ended_listing S n horizon)) (ended_listing P q horizon) (sort_map_rises ended_key (renumbered_ended to) ended_key (ended_listing S n horizon) listing_N.rise key_apart) listing_P.rise members)
+    pub listing_renumbered : ended_listing P q horizon ≡ renumbered_listing to (ended_listing S n horizon)
+    listing_renumbered = sym (sort-is ended_key (map (renumbered_ended to) (ended_listing S n horizon)) (ended_listing P q horizon) (sort_map_rises ended_key (renumbered_ended to) ended_key (ended_listing S n horizon) listing_N.rise key_apart) listing_P.rise members)
 
   pub renumbered-length : (n q : Cells) (horizon : ℕ) → ((t v : ℕ) → t < horizon → Memᴰ v S.watched → n t v ≡ q t (to v)) → (k : ℕ) → k ≤ horizon → length (listing P q k) ≡ length (listing S n k)
   renumbered-length n q horizon same k b =
       sym (length-map (listing P q k) (ended_of q k))
-      ∙ ap length (renumbered_listing_lem n q k (λ t v l m. same t v (omega arith) m))
+      ∙ ap length (listing_renumbered n q k (λ t v l m. same t v (omega arith) m))
       ∙ sort-map-length ended_key (renumbered_ended to) (ended_listing S n k)
       ∙ length-map (listing S n k) (ended_of n k)

@@ -23,8 +23,8 @@ use Rattle.format.proofs.Theorems.{refusals, no_refusal, no_other_answer}
 use Rattle.network.specs.Buffer.{room}
 use Rattle.network.specs.Ends.{Ended, ended_listing}
 use Rattle.network.specs.Listing.{listing, pending}
-use Rattle.network.specs.Run.{Written, ran, horizon_outside, written_of}
-use Rattle.network.specs.RunConditions.{Passes, Begins, RunCondition, horizon_outside_lem, sheet_refused, no_room, crowded, whole}
+use Rattle.network.specs.Run.{Written, ran, is_horizon_outside, written_of}
+use Rattle.network.specs.RunConditions.{Passes, Begins, RunCondition, horizon_outside, sheet_refused, no_room, crowded, whole}
 use Rattle.network.specs.Satisfied.{Satisfied}
 use Rattle.network.specs.Timeline.{Cells}
 use Rattle.sheet.proofs.Rows.{finished≢refused}
@@ -35,7 +35,7 @@ module _ {E : Edition} (known : Known E) (s : List ℕ) (horizon bytes : ℕ) (c
   abbrev S : Sheet
   S = sheet_of E s
 
-  in_range : 0 < horizon → horizon ≤ greatest_horizon → horizon_outside horizon ≡ false
+  in_range : 0 < horizon → horizon ≤ greatest_horizon → is_horizon_outside horizon ≡ false
   in_range some few = rw (ne_eqb horizon 0 (λ e. omega (arith, some, e)), le-ltb greatest_horizon horizon few)
 
   begun : Begins E s horizon → ran E s horizon bytes ≡ written_of S cells horizon bytes
@@ -44,8 +44,8 @@ module _ {E : Edition} (known : Known E) (s : List ℕ) (horizon bytes : ℕ) (c
       ran_sheet_lem E s horizon bytes (in_range b.some_tick b.few_ticks) e ∙ ran_satisfied S (accepted E known s e).sheet horizon cells (satisfied b) bytes
 
   writes : (w : Written) → RunCondition E s cells horizon bytes w → ran E s horizon bytes ≡ w
-  writes w (horizon_outside_lem (inl e)) = ran-outside E s horizon bytes (rw (eq-eqb horizon 0 e))
-  writes w (horizon_outside_lem (inr h)) = ran-outside E s horizon bytes (rw (ne_eqb horizon 0 (λ e. omega (arith, h, e)), lt-ltb greatest_horizon horizon h))
+  writes w (horizon_outside (inl e)) = ran-outside E s horizon bytes (rw (eq-eqb horizon 0 e))
+  writes w (horizon_outside (inr h)) = ran-outside E s horizon bytes (rw (ne_eqb horizon 0 (λ e. omega (arith, h, e)), lt-ltb greatest_horizon horizon h))
   writes w (sheet_refused {n} {p} some few r) = ran_refused E s horizon bytes (in_range some few) ((refusals false known s n p).1 r)
   writes w (no_room t f over) = begun f.begins ∙ outcome.full S cells horizon bytes t f.below f.passed over
   writes w (crowded t f fits over) = begun f.begins ∙ outcome.crowded S cells horizon bytes t f.below f.passed fits over
@@ -87,8 +87,8 @@ module _ {E : Edition} (known : Known E) (s : List ℕ) (horizon bytes : ℕ) (c
   some = by_horizon (ℕ_discrete horizon 0) (dec_le horizon greatest_horizon)
     where
       by_horizon : Dec (horizon ≡ 0) → Dec (horizon ≤ greatest_horizon) → (w : Written) × RunCondition E s cells horizon bytes w
-      by_horizon (yes e) q = (_, horizon_outside_lem (inl e))
-      by_horizon (no d) (no f) = (_, horizon_outside_lem (inr (omega arith)))
+      by_horizon (yes e) q = (_, horizon_outside (inl e))
+      by_horizon (no d) (no f) = (_, horizon_outside (inr (omega arith)))
       by_horizon (no d) (yes f) = ⊎_elim begins (λ r. (_, sheet_refused (omega arith) f ((refusals false known s r.0 r.1).0 r.2))) (checks E s)
         where
           begins : checked E s ≡ finished 0 → (w : Written) × RunCondition E s cells horizon bytes w
@@ -123,7 +123,7 @@ sheet_number {E} known s {n} {p} r = ⊎_elim (λ e. absurd (finished≢refused 
 module _ {E : Edition} {s : List ℕ} {c : Cells} {horizon bytes : ℕ} where
   pub finished_run : (w : Written) → RunCondition E s c horizon bytes w → (count : ℕ) → w.answer ≡ finished count
       → FinishedRun E s c horizon bytes count w.records
-  finished_run w (horizon_outside_lem h) count e = absurd (finished≢refused (sym e))
+  finished_run w (horizon_outside h) count e = absurd (finished≢refused (sym e))
   finished_run w (sheet_refused h k r) count e = absurd (finished≢refused (sym e))
   finished_run w (no_room t f o) count e = absurd (finished≢refused (sym e))
   finished_run w (crowded t f r p) count e = absurd (finished≢refused (sym e))
@@ -132,7 +132,7 @@ module _ {E : Edition} {s : List ℕ} {c : Cells} {horizon bytes : ℕ} where
   -- a number above those of a sheet's refusals: the tick's, with the records below the bound of its answer
   pub refused_tick : Known E → (w : Written) → RunCondition E s c horizon bytes w → (n t count : ℕ) → 18 < n → w.answer ≡ refused n t count
       → Begins E s horizon × (((n ≡ 19) × (w.records ≡ ended_listing (sheet_of E s) c t)) ⊎ ((n ≡ 20) × (w.records ≡ ended_listing (sheet_of E s) c (suc t))))
-  refused_tick known w (horizon_outside_lem h) n t count above e = absurd (let i : 1 ≡ n = cc in omega arith)
+  refused_tick known w (horizon_outside h) n t count above e = absurd (let i : 1 ≡ n = cc in omega arith)
   refused_tick known w (sheet_refused {n = m} some few r) n t count above e = absurd (let i : m ≡ n = cc in omega (arith, sheet_number known s r))
   refused_tick known w (no_room u f o) n t count above e =
       let tick : u ≡ t = cc in
@@ -144,7 +144,7 @@ module _ {E : Edition} {s : List ℕ} {c : Cells} {horizon bytes : ℕ} where
 
   -- no run answers a number of the sheet's table whose condition is met nowhere
   pub never_answered : (k : ℕ) → 1 < k → k < 19 → ((p : ℕ) → Condition E s k p → ⊥) → (w : Written) → RunCondition E s c horizon bytes w → (place count : ℕ) → w.answer ≡ refused k place count → ⊥
-  never_answered k l h none w (horizon_outside_lem o) place count e = let n : ◌≡◌ {A = ℕ} 1 k = cc in omega (arith, n)
+  never_answered k l h none w (horizon_outside o) place count e = let n : ◌≡◌ {A = ℕ} 1 k = cc in omega (arith, n)
   never_answered k l h none w (sheet_refused {n} {p} o q r) place count e =
       let is : n ≡ k = cc in
       none p (subst (λ n. Condition E s n p) is r.met)

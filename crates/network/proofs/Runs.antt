@@ -14,7 +14,7 @@ use Rattle.sheet.specs.WorkingOrder.{working_order}
 use Rattle.sheet.specs.declared.Edition.{Edition}
 use Rattle.format.specs.Accepted.{Accepted}
 use Rattle.network.specs.Demand3.{Only, RunsToHorizon, ValidOrders}
-use Rattle.network.specs.Run.{after_check, cells_of, horizon_outside, ran, ran_sheet, written_of, wrote}
+use Rattle.network.specs.Run.{after_check, cells_of, is_horizon_outside, ran, ran_sheet, written_of, wrote}
 use Rattle.network.specs.Satisfied.{Satisfied}
 use Rattle.network.specs.Timeline.{Cells}
 use Rattle.network.specs.Working.{worked}
@@ -28,11 +28,11 @@ use Rattle.network.proofs.WorkingOrder.{working_order_lem}
 
 module _ (E : Edition) (s : List ℕ) (horizon bytes : ℕ) where
   -- a horizon outside its range is refused before anything is read
-  pub ran-outside : horizon_outside horizon ≡ true → ran E s horizon bytes ≡ wrote (refused 1 0 0) []
+  pub ran-outside : is_horizon_outside horizon ≡ true → ran E s horizon bytes ≡ wrote (refused 1 0 0) []
   unfolding ran
   ran-outside out = ap (λ b. if b then wrote (refused 1 0 0) [] else after_check (sheet_of E s) horizon bytes (checked E s)) out
 
-  module _ (range : horizon_outside horizon ≡ false) where
+  module _ (range : is_horizon_outside horizon ≡ false) where
     after_check_lem : ran E s horizon bytes ≡ after_check (sheet_of E s) horizon bytes (checked E s)
     unfolding ran
     after_check_lem = ap (λ b. if b then wrote (refused 1 0 0) [] else after_check (sheet_of E s) horizon bytes (checked E s)) range
@@ -52,10 +52,10 @@ checks E s = first_answers (rows false E s)
 
 module _ (E : Edition) (s : List ℕ) (horizon bytes : ℕ) (runs : RunsToHorizon E s horizon bytes) where
   -- the horizon and the check were passed
-  pub in_range : horizon_outside horizon ≡ false
-  in_range = go (horizon_outside horizon) refl
+  pub in_range : is_horizon_outside horizon ≡ false
+  in_range = go (is_horizon_outside horizon) refl
     where
-      go : (b : Bool) → horizon_outside horizon ≡ b → horizon_outside horizon ≡ false
+      go : (b : Bool) → is_horizon_outside horizon ≡ b → is_horizon_outside horizon ≡ false
       go true out = absurd (finished≢refused (sym runs.answer ∙ ap (λ w. w.answer) (ran-outside E s horizon bytes out)))
       go false range = range
 

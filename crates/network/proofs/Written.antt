@@ -25,4 +25,4 @@ module _ {E : Edition} (known : Known E) (S : Sheet) (acc : Accepted S) (kinds :
   written_accepted = record { sheet = rw read_back acc; kinds = rw read_back kinds; whole = encode_whole known S fits_edition }
 
   pub written_strictly : ((v : ℕ) → Input S v → DrivenAtStart S v) → StrictlyAcceptedIn E (encode E S)
-  written_strictly started = record { accepted = written_accepted; driven_at_start_lem = rw read_back started }
+  written_strictly started = record { accepted = written_accepted; driven_from_start = rw read_back started }

@@ -36,7 +36,7 @@ pub record SameRenumbered (e : Edition) (s p : List ℕ) (to : ℕ → ℕ) (hor
   -- P's answer is N's
   pub same_answer : (ran e p horizon bytes).answer ≡ (ran e s horizon bytes).answer
   -- P's listing is N's renumbered and sorted again
-  pub renumbered_listing_lem : (ran e p horizon bytes).records ≡ renumbered_listing to (ran e s horizon bytes).records
+  pub listing_renumbered : (ran e p horizon bytes).records ≡ renumbered_listing to (ran e s horizon bytes).records
   -- these cells satisfy the drive, the initial values and every module up to the horizon
   pub satisfied_by_N : Satisfied (sheet_of e s) horizon n
   pub satisfied_by_P : Satisfied (sheet_of e p) horizon q

@@ -13,7 +13,7 @@ use Rattle.network.specs.Timeline.{Cells, drive_cell, contribution}
 use Rattle.network.specs.Listing.{Pending, changes, listing}
 use Rattle.network.specs.Ends.{ended_listing}
 use Rattle.network.specs.Buffer.{room}
-use Rattle.network.specs.Run.{TickRow, Written, first_tick, horizon_outside, unless_refused, wrote}
+use Rattle.network.specs.Run.{TickRow, Written, first_tick, is_horizon_outside, unless_refused, wrote}
 
 -- each input's cells are those of the drive, and each driven node's cells those of its driver's equation
 pub record SatisfiedByOne (S : Sheet) (horizon : ℕ) (c : Cells) : Type 0 where
@@ -42,5 +42,5 @@ written_before S c horizon bytes = first_tick (each horizon (tick_rows_before S 
 -- 1, then the sheet's refusals with 9 among them, then the ticks
 abbrev pub ran_before : Edition → List ℕ → Cells → ℕ → ℕ → Written
 ran_before e s c horizon bytes =
-    if horizon_outside horizon then wrote (refused 1 0 0) []
+    if is_horizon_outside horizon then wrote (refused 1 0 0) []
     else unless_refused (checked_with9 false e s) (written_before (sheet_of e s) c horizon bytes)

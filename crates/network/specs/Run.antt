@@ -64,12 +64,12 @@ unless_refused (refused n p k) run = wrote (refused n p k) []
 abbrev pub after_check : Sheet → ℕ → ℕ → Outcome → Written
 after_check S horizon bytes check = unless_refused check (ran_sheet S horizon bytes)
 
-abbrev pub horizon_outside : ℕ → Bool
-horizon_outside horizon = zero_or_above greatest_horizon horizon
+abbrev pub is_horizon_outside : ℕ → Bool
+is_horizon_outside horizon = zero_or_above greatest_horizon horizon
 
 -- 1 horizon 0 or above 1,000,000; then the sheet's refusals; then the ticks
 unfoldable pub ran : Edition → List ℕ → ℕ → ℕ → Written
-ran e s horizon bytes = if horizon_outside horizon then wrote (refused 1 0 0) [] else after_check (sheet_of e s) horizon bytes (checked e s)
+ran e s horizon bytes = if is_horizon_outside horizon then wrote (refused 1 0 0) [] else after_check (sheet_of e s) horizon bytes (checked e s)
 
 -- What a run leaves: the answer of what it wrote, and its records in the buffer.
 pub record Leaves (run : Written) (before : List ℕ) (answer : Outcome) (after : List ℕ) : Type 0 where

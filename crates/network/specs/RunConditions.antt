@@ -41,7 +41,7 @@ module _ (e : Edition) (s : List ℕ) (c : Cells) (horizon bytes : ℕ) where
   -- what a run has written, under the condition of its answer
   pub data RunCondition : Written → Type 0 where
     -- before reading: 1 horizon 0 or above 1,000,000
-    horizon_outside_lem : (horizon ≡ 0) ⊎ (greatest_horizon < horizon) → RunCondition (wrote (refused 1 0 0) [])
+    horizon_outside : (horizon ≡ 0) ⊎ (greatest_horizon < horizon) → RunCondition (wrote (refused 1 0 0) [])
     -- then the sheet's refusals, 2 to 18 but 15: the first whose condition is met, front to back
     sheet_refused : {n p : ℕ} → 0 < horizon → horizon ≤ greatest_horizon → FirstCondition e s n p
         → RunCondition (wrote (refused n p 0) [])

@@ -20,7 +20,7 @@ use Rattle.network.specs.Satisfied.{Satisfied}
 use Rattle.network.specs.Order.{Listed}
 use Rattle.network.specs.Ends.{ended_key}
 use Rattle.network.specs.Buffer.{buffer_after}
-use Rattle.network.specs.Run.{Written, cells_of, unless_refused, horizon_outside, ran}
+use Rattle.network.specs.Run.{Written, cells_of, unless_refused, is_horizon_outside, ran}
 use Rattle.network.specs.Demand2.{Lists}
 use Rattle.network.specs.Demand3.{RunsToHorizon, SameRenumbered}
 use Rattle.network.specs.Renumbering.{Permutation, sort, renumbered_bytes, renumbered_ended, renumbered_listing}
@@ -58,27 +58,27 @@ pub reports_same : {E : Edition} {s : List ℕ} {horizon width : ℕ} {listing r
 reports_same x y = let z = made_same x.makes y.makes in (z.0, x.left ∙ sym y.left, z.1)
 
 -- the width in its range, and outside it
-asked_1 : (horizon width : ℕ) → horizon_outside horizon ≡ true → asked horizon width ≡ refused 1 0 0
+asked_1 : (horizon width : ℕ) → is_horizon_outside horizon ≡ true → asked horizon width ≡ refused 1 0 0
 asked_1 horizon width h = rw h
 
-asked_24 : (horizon width : ℕ) → horizon_outside horizon ≡ false → zero_or_above greatest_width width ≡ true → asked horizon width ≡ refused width_outside 0 0
+asked_24 : (horizon width : ℕ) → is_horizon_outside horizon ≡ false → zero_or_above greatest_width width ≡ true → asked horizon width ≡ refused width_outside 0 0
 asked_24 horizon width h w = rw (h, w)
 
-pub asked-none : (horizon width : ℕ) → horizon_outside horizon ≡ false → zero_or_above greatest_width width ≡ false → asked horizon width ≡ finished 0
+pub asked-none : (horizon width : ℕ) → is_horizon_outside horizon ≡ false → zero_or_above greatest_width width ≡ false → asked horizon width ≡ finished 0
 asked-none horizon width h w = rw (h, w)
 
 -- Each answer under its condition, in this order:
 module _ {E : Edition} (known : Known E) (s : List ℕ) (horizon width : ℕ) {listing report listed reported : List ℕ} {answer : Outcome} (call : Reports E s horizon width listing report answer listed reported) where
   -- a horizon outside its range,
-  pub refused_1 : horizon_outside horizon ≡ true → (answer ≡ refused 1 0 0) × (listed ≡ listing) × (reported ≡ report)
+  pub refused_1 : is_horizon_outside horizon ≡ true → (answer ≡ refused 1 0 0) × (listed ≡ listing) × (reported ≡ report)
   refused_1 h = reports_same call (refused_asked known s horizon width listing report (asked_1 horizon width h))
 
   -- a width outside its own,
-  pub refused_24 : horizon_outside horizon ≡ false → zero_or_above greatest_width width ≡ true → (answer ≡ refused width_outside 0 0) × (listed ≡ listing) × (reported ≡ report)
+  pub refused_24 : is_horizon_outside horizon ≡ false → zero_or_above greatest_width width ≡ true → (answer ≡ refused width_outside 0 0) × (listed ≡ listing) × (reported ≡ report)
   refused_24 h w = reports_same call (refused_asked known s horizon width listing report (asked_24 horizon width h w))
 
   -- and with both in range
-  module _ (h : horizon_outside horizon ≡ false) (w : zero_or_above greatest_width width ≡ false) where
+  module _ (h : is_horizon_outside horizon ≡ false) (w : zero_or_above greatest_width width ≡ false) where
     abbrev run : Written
     run = ran E s horizon (length listing)
 
@@ -127,13 +127,13 @@ module _ {E : Edition} (known : Known E) (s : List ℕ) (horizon width bytes : �
   pub renumbered_pulses : pulses_of E p horizon width ≡ renumbered_report π.to (pulses_of E s horizon width)
   renumbered_pulses =
       sym (records_show known p horizon width bytes runs_P.count runs_P.answer)
-      ∙ ap (shown horizon width) same.renumbered_listing_lem
+      ∙ ap (shown horizon width) same.listing_renumbered
       ∙ renumbered_shown (sheet_of E s) (sheet_of E p) (cells_of (sheet_of E s) horizon) (cells_of (sheet_of E p) horizon) horizon width π.to
       (λ v m. omega (arith, π.to_below v (watched_nodes (sheet_of E s) acc v m), acc.nodes))
       (λ u v m k. to_once π u v (watched_nodes (sheet_of E s) acc u m) (watched_nodes (sheet_of E s) acc v k))
       (ran E s horizon bytes).records
       (lists known s horizon width bytes runs (cells_of (sheet_of E s) horizon) same.satisfied_by_N)
-      (subst (Lists (sheet_of E p) (cells_of (sheet_of E p) horizon) horizon) same.renumbered_listing_lem (lists known p horizon width bytes runs_P (cells_of (sheet_of E p) horizon) same.satisfied_by_P))
+      (subst (Lists (sheet_of E p) (cells_of (sheet_of E p) horizon) horizon) same.listing_renumbered (lists known p horizon width bytes runs_P (cells_of (sheet_of E p) horizon) same.satisfied_by_P))
       ∙ ap (renumbered_report π.to) (records_show known s horizon width bytes runs.count runs.answer)
 
   -- what comes before it, whether it is in range or not
@@ -143,7 +143,7 @@ module _ {E : Edition} (known : Known E) (s : List ℕ) (horizon width bytes : �
 
   records_renumbered : (o : Outcome) → (unless_refused o (ran E p horizon bytes)).records ≡ renumbered_listing π.to (unless_refused o (ran E s horizon bytes)).records
   unfolding sort
-  records_renumbered (finished n) = same.renumbered_listing_lem
+  records_renumbered (finished n) = same.listing_renumbered
   records_renumbered (refused n q k) = refl
 
 -- The same of two calls by what each leaves, their buffers of the same lengths: P's answer is N's, its listing has N's records and its report N's pulses, both

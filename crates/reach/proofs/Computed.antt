@@ -8,7 +8,7 @@ use Rattle.sheet.specs.declared.Module.{Module}
 use Rattle.sheet.specs.Enumerate.{any_below, each}
 use Rattle.sheet.specs.Outcome.{refused}
 use Rattle.sheet.specs.Sheet.{Sheet}
-use Rattle.sheet.specs.Loop.{leads_over, on_loop}
+use Rattle.sheet.specs.Loop.{leads_over, is_on_loop}
 use Rattle.sheet.specs.Refusal.{loop_rows, first}
 
 -- a module of delay 0
@@ -25,7 +25,7 @@ between = record {
   watched = [];
 }
 
-on_loops : map (on_loop between) (0 ∷ 1 ∷ 2 ∷ 3 ∷ 4 ∷ 5 ∷ []) ≡ false ∷ true ∷ true ∷ false ∷ true ∷ false ∷ []
+on_loops : map (is_on_loop between) (0 ∷ 1 ∷ 2 ∷ 3 ∷ 4 ∷ 5 ∷ []) ≡ false ∷ true ∷ true ∷ false ∷ true ∷ false ∷ []
 unfolding between at_once any_below leads_over
 on_loops = refl
 

@@ -13,6 +13,6 @@ use Rattle.reach.specs.Links.{Network}
 pub network_held : (S : Sheet) (c : Contents) → Holds S c → node_count S ≤ most_nodes → Network c.modules c.counts.modules c.counts.nodes S
 network_held S c h few =
     record {
-      modules = sym (ap (take c.counts.modules) h.modules ∙ take-filled most_modules no_module S.modules c.counts.modules h.module_count_lem);
-      nodes = omega (arith, h.node_count_lem, few);
+      modules = sym (ap (take c.counts.modules) h.modules ∙ take-filled most_modules no_module S.modules c.counts.modules h.counts_modules);
+      nodes = omega (arith, h.counts_nodes, few);
     }

@@ -19,7 +19,7 @@ use Rattle.sheet.specs.Refusal.{◌at◌when◌, first, first_event_rows, first_
 use Rattle.sheet.specs.Sheet.{Sheet, node_count, event_of}
 use Rattle.sheet.specs.Wiring.{is_driven, is_input, started_by, driven_at_start}
 use Rattle.sheet.proofs.Each.{each_same}
-use Rattle.sheet.proofs.Parts.{node_count_lem, event_count_lem, event_of_lem}
+use Rattle.sheet.proofs.Parts.{counts_nodes, counts_events, event_of_lem}
 use Rattle.read_nodes.proofs.Flags.{flag_more}
 use Rattle.read_drive.specs.Begun.{begun_by, unbegun_rows, unbegun_section}
 
@@ -79,6 +79,6 @@ first_rows strict e s flags {k} known all counted few =
 
     same : (v : ℕ) → v < nodes_counted s → not (get_or flags v false) ≡ (is_input S v && not (driven_at_start S v))
     same v h =
-        ap not (known v (omega arith) ∙ ap (λ n. begun_in S n v) (all ∙ sym (event_count_lem e s)))
+        ap not (known v (omega arith) ∙ ap (λ n. begun_in S n v) (all ∙ sym (counts_events e s)))
         ∙ (not_or (is_driven S v) (driven_at_start S v)
-        ∙ sym (ap (λ b. (b && not (is_driven S v)) && not (driven_at_start S v)) (lt-ltb v (node_count S) (rw (node_count_lem e s) h))))
+        ∙ sym (ap (λ b. (b && not (is_driven S v)) && not (driven_at_start S v)) (lt-ltb v (node_count S) (rw (counts_nodes e s) h))))

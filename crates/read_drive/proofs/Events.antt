@@ -16,7 +16,7 @@ use Rattle.sheet.specs.Outcome.{Outcome, finished, refused}
 use Rattle.sheet.specs.Reading.{event_read}
 use Rattle.sheet.specs.Refusal.{first, key, not_above_event, event_rows}
 use Rattle.sheet.specs.Wiring.{is_driven, is_input}
-use Rattle.sheet.proofs.Parts.{node_count_lem}
+use Rattle.sheet.proofs.Parts.{counts_nodes}
 use Rattle.sheet.proofs.Read.{short_event, whole_event}
 use Rattle.read_nodes.specs.Rising.{least_after}
 use Rattle.read_nodes.proofs.Checks.{no_rows, row_met, row_past}
@@ -70,4 +70,4 @@ module _ (e : Edition) (s : List ℕ) (k : ℕ) {p : ℕ} (stands : p ≡ event_
 
 -- an input, by the count of nodes and the flag of a driven one
 pub input_of : (e : Edition) (s : List ℕ) (v : ℕ) {nodes : ℕ} → nodes ≡ nodes_counted s → (ltb v nodes && not (is_driven (sheet_of e s) v)) ≡ is_input (sheet_of e s) v
-input_of e s v counted = ap (λ n. ltb v n && not (is_driven (sheet_of e s) v)) (counted ∙ sym (node_count_lem e s))
+input_of e s v counted = ap (λ n. ltb v n && not (is_driven (sheet_of e s) v)) (counted ∙ sym (counts_nodes e s))

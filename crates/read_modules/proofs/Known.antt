@@ -9,10 +9,10 @@ use Rattle.sheet.specs.Refusal.{Row, first}
 use Rattle.sheet.proofs.Rows.{finished≢refused}
 use Rattle.read_nodes.proofs.Filling.{none_read}
 use Rattle.read_modules.specs.declared.section.ModulesRead.{ModulesRead}
-use Rattle.read_modules.specs.Read.{none_read_lem, ModulesKnown}
+use Rattle.read_modules.specs.Read.{nothing_read, ModulesKnown}
 
 module _ (e : Edition) (s : List ℕ) (rows : List Row) where
-  pub none_known : {a : Answer} {r : ModulesRead} {number place k : ℕ} → r ≡ none_read_lem a → a ≡ Answer.Refused number place k → outcome_of a ≡ first rows → ModulesKnown e s rows r
+  pub none_known : {a : Answer} {r : ModulesRead} {number place k : ℕ} → r ≡ nothing_read a → a ≡ Answer.Refused number place k → outcome_of a ≡ first rows → ModulesKnown e s rows r
   none_known none is told =
       subst (ModulesKnown e s rows) (sym none)
       (record {

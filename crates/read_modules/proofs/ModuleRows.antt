@@ -21,7 +21,7 @@ use Rattle.sheet.specs.Reading.{module_read}
 use Rattle.sheet.specs.Refusal.{Row, ◌at◌when◌, first, count_rows, module_rows, modules_section}
 use Rattle.sheet.specs.Sheet.{no_module}
 use Rattle.sheet.specs.Wiring.{driven_by}
-use Rattle.sheet.proofs.Parts.{module_count_lem, module_of_lem}
+use Rattle.sheet.proofs.Parts.{counts_modules, module_of_lem}
 use Rattle.sheet.proofs.Read.{short_module, whole_module}
 use Rattle.sheet.proofs.Rows.{passed_append, stopped_each}
 use Rattle.read_nodes.specs.Told.{CountTold}
@@ -58,7 +58,7 @@ module _ (e : Edition) (s : List ℕ) where
         let last : m ≡ modules_counted s = omega (arith, h, r.so_far, r.counted) in
         record {
           section = all_read (all_passed_by r h) r.counted r.few (all_held r h);
-          driven = λ _. rw (last, ← module_count_lem e s) at reached.flags;
+          driven = λ _. rw (last, ← counts_modules e s) at reached.flags;
           end = λ _. (reached.place ∙ ap (module_place e s) last, omega (arith, h, reached.near, r.so_far, r.few));
           none = λ f. absurd (f refl);
         }

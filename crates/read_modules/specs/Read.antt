@@ -13,8 +13,8 @@ use Rattle.sheet.specs.Wiring.{is_driven}
 use Rattle.read_modules.specs.declared.section.ModulesRead.{ModulesRead}
 
 -- what is known where a row is met
-abbrev pub none_read_lem : Answer → ModulesRead
-none_read_lem answer =
+abbrev pub nothing_read : Answer → ModulesRead
+nothing_read answer =
     record { answer = answer; count = 0; modules = replicate most_modules no_module; driven = replicate most_nodes false; end = 0 }
 
 -- Where none of the rows is met, the modules are known, the nodes that they drive are flagged, and the next section's place is known;

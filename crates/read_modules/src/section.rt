@@ -6,7 +6,7 @@ ghost use Rattle.sheet.specs.Layout.{nodes_counted, node_at, modules_place};
 ghost use Rattle.sheet.specs.Limits.{most_nodes};
 ghost use Rattle.sheet.specs.Refusal.{modules_section};
 ghost use Rattle.sheet.specs.Sections.{rows_of_modules};
-ghost use Rattle.read_modules.specs.Read.{none_read_lem, ModulesKnown};
+ghost use Rattle.read_modules.specs.Read.{nothing_read, ModulesKnown};
 
 use crate::node_bytes::first_byte_refusal;
 use crate::record::record_refusal;
@@ -27,7 +27,7 @@ pub struct ModulesRead {
 
 // An answer, and nothing known.
 fn none_read(answer: Answer) -> ModulesRead
-    ensures { result ≡ none_read_lem answer }
+    ensures { result ≡ nothing_read answer }
 {
     ModulesRead {
         answer,

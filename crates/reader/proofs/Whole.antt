@@ -10,7 +10,7 @@ use Rattle.sheet.specs.Contents.{Holds, no_sheet}
 use Rattle.sheet.specs.Layout.{sheet_of}
 use Rattle.sheet.specs.Outcome.{outcome_of}
 use Rattle.sheet.specs.Refusal.{first, bytes_rows}
-use Rattle.sheet.proofs.Parts.{node_count_lem, module_count_lem, event_count_lem, watched_count_lem}
+use Rattle.sheet.proofs.Parts.{counts_nodes, counts_modules, counts_events, counts_watched}
 use Rattle.sheet.proofs.Rows.{finished≢refused, passed}
 use Rattle.reader.specs.declared.sections.Reading.{Reading}
 use Rattle.reader.specs.Read.{SectionsKnown, InRange, ReadTo, WholeRead}
@@ -21,10 +21,10 @@ module _ (e : Edition) (s : List ℕ) where
   unfolding sheet_of
   all_held c known =
       record {
-        node_count_lem = known.0.0.0.1.0 ∙ sym (node_count_lem e s);
-        module_count_lem = known.0.0.1.0.0 ∙ sym (module_count_lem e s);
-        event_count_lem = known.0.1.0 ∙ sym (event_count_lem e s);
-        watched_count_lem = known.1.0 ∙ sym (watched_count_lem e s);
+        counts_nodes = known.0.0.0.1.0 ∙ sym (counts_nodes e s);
+        counts_modules = known.0.0.1.0.0 ∙ sym (counts_modules e s);
+        counts_events = known.0.1.0 ∙ sym (counts_events e s);
+        counts_watched = known.1.0 ∙ sym (counts_watched e s);
         nodes = known.0.0.0.1.2;
         modules = known.0.0.1.0.2;
         drive = known.0.1.2;
@@ -34,10 +34,10 @@ module _ (e : Edition) (s : List ℕ) where
   all_few : (c : Reading) → SectionsKnown e s 4 c → InRange (sheet_of e s)
   all_few c known =
       record {
-        nodes = rw (node_count_lem e s, ← known.0.0.0.1.0) known.0.0.0.1.1;
-        modules = rw (module_count_lem e s, ← known.0.0.1.0.0) known.0.0.1.0.1;
-        events = rw (event_count_lem e s, ← known.0.1.0) known.0.1.1;
-        watched = rw (watched_count_lem e s, ← known.1.0) known.1.1;
+        nodes = rw (counts_nodes e s, ← known.0.0.0.1.0) known.0.0.0.1.1;
+        modules = rw (counts_modules e s, ← known.0.0.1.0.0) known.0.0.1.0.1;
+        events = rw (counts_events e s, ← known.0.1.0) known.0.1.1;
+        watched = rw (counts_watched e s, ← known.1.0) known.1.1;
       }
 
   module _ {strict : Bool} {c : Reading} (told : ReadTo strict e s 4 c) where

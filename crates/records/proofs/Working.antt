@@ -10,7 +10,7 @@ use Rattle.sheet.specs.declared.Module.{Module}
 use Rattle.sheet.specs.Sheet.{Sheet, no_module, module_count}
 use Rattle.sheet.specs.Contents.{filled}
 use Rattle.sheet.specs.WorkingOrder.{working_order, in_working_order}
-use Rattle.records.specs.Records.{record_at, in_order_lem, first_in_order}
+use Rattle.records.specs.Records.{record_at, in_order, first_in_order}
 
 module _ {A : Type 0} where
   -- a list filled up with what stands past its end has the same at every place
@@ -30,14 +30,14 @@ module _ {A : Type 0} where
 pub working_records : (S : Sheet) (n : ℕ) → length (working_order S) ≡ n → {modules : List Module} {order : List ℕ}
     → modules ≡ filled 256 no_module S.modules → order ≡ filled 256 0 (working_order S) → take n (first_in_order modules order n) ≡ in_working_order S
 working_records S n all {modules} {order} e f =
-    ap (λ numbers. take n (in_order_lem modules numbers ++ drop n modules)) (ap (take n) f ∙ take_at (working_order S) _ n all)
-    ∙ take_at (in_order_lem modules (working_order S)) (drop n modules) n (length-map (working_order S) (record_at modules) ∙ all)
+    ap (λ numbers. take n (in_order modules numbers ++ drop n modules)) (ap (take n) f ∙ take_at (working_order S) _ n all)
+    ∙ take_at (in_order modules (working_order S)) (drop n modules) n (length-map (working_order S) (record_at modules) ∙ all)
     ∙ map_congr_left {l = working_order S} (λ m _. ap (λ (l : List Module). record_at l m) e ∙ filled_there (256 - module_count S) no_module S.modules m)
 
 -- a count past the greatest one
 pub cut_count : (modules : List Module) (order : List ℕ) (n : ℕ) → length modules ≡ 256 → length order ≡ 256 → 256 < n
     → first_in_order modules order 256 ≡ first_in_order modules order n
 cut_count modules order n p q h =
-    ap₂ (λ numbers rest. in_order_lem modules numbers ++ rest)
+    ap₂ (λ numbers rest. in_order modules numbers ++ rest)
     (take_all 256 order (omega arith) ∙ sym (take_all n order (omega arith)))
     (drop_of_length-le modules {i = 256} (omega arith) ∙ sym (drop_of_length-le modules {i = n} (omega arith)))

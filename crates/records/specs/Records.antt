@@ -8,12 +8,12 @@ abbrev pub record_at : List Module → ℕ → Module
 record_at records m = get_or records m no_module
 
 -- at each position the record whose number stands there in the order
-abbrev pub in_order_lem : List Module → List ℕ → List Module
-in_order_lem records order = map (record_at records) order
+abbrev pub in_order : List Module → List ℕ → List Module
+in_order records order = map (record_at records) order
 
 -- the first n records in the order, and the rest as they are
 abbrev pub first_in_order : List Module → List ℕ → ℕ → List Module
-first_in_order records order n = in_order_lem records (take n order) ++ drop n records
+first_in_order records order n = in_order records (take n order) ++ drop n records
 
 -- the same of an order for as many records as there may be
 pub record Ordered (records : List Module) (order : List ℕ) (n : ℕ) (result : List Module) : Type 0 where

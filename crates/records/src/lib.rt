@@ -3,7 +3,7 @@
 
 ghost use Rattle.std.specs.Prelude.{◌≡◌, ◌≤◌, length, take};
 ghost use Rattle.sheet.specs.Limits.{most_modules};
-ghost use Rattle.records.specs.Records.{in_order_lem, first_in_order, Ordered};
+ghost use Rattle.records.specs.Records.{in_order, first_in_order, Ordered};
 
 use sheet::{MODULES, MOST_MODULES, Module};
 
@@ -11,7 +11,7 @@ use sheet::{MODULES, MOST_MODULES, Module};
 // A number is a byte and there are 256 records, so every number has a record.
 fn put_in_order(to: &mut [Module], from: &[Module], order: &[u8])
     requires { (length to.old ≤ length order.now) × (length from.now ≡ most_modules) }
-    ensures { to.new ≡ in_order_lem from.now (take (length to.old) order.now) }
+    ensures { to.new ≡ in_order from.now (take (length to.old) order.now) }
 {
     let mut k: usize = 0;
     while k < to.len() {

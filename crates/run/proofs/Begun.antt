@@ -19,24 +19,24 @@ use Rattle.sheet.specs.Refusal.{checked}
 use Rattle.sheet.proofs.Rows.{finished≢refused}
 use Rattle.sheet.proofs.Tests.{fails, tells_lt, tells_eq, tells_or, at_most}
 use Rattle.network.specs.Buffer.{buffer_after}
-use Rattle.network.specs.Run.{wrote, horizon_outside, ran, ran_sheet, Leaves, RunLeaves}
+use Rattle.network.specs.Run.{wrote, is_horizon_outside, ran, ran_sheet, Leaves, RunLeaves}
 use Rattle.network.proofs.Runs.{ran-outside, ran_refused, ran_sheet_lem}
 use Rattle.listing.proofs.Buffer.{buffer-none}
 
 -- a horizon in its range
-pub within : (horizon : ℕ) → horizon_outside horizon ≡ false → (0 < horizon) × (horizon ≤ greatest_horizon)
+pub within : (horizon : ℕ) → is_horizon_outside horizon ≡ false → (0 < horizon) × (horizon ≤ greatest_horizon)
 within horizon range =
-    let out = (fails (horizon_outside horizon) (tells_or (eqb horizon 0) (ltb greatest_horizon horizon) (tells_eq horizon 0) (tells_lt greatest_horizon horizon))).0 range in
+    let out = (fails (is_horizon_outside horizon) (tells_or (eqb horizon 0) (ltb greatest_horizon horizon) (tells_eq horizon 0) (tells_lt greatest_horizon horizon))).0 range in
     let some : horizon ≡ 0 → ⊥ = λ e. out (inl e) in
     (omega (arith, some), at_most (λ h. out (inr h)))
 
 abbrev answer_if : Bool → Outcome
 answer_if out = if out then refused 1 0 0 else finished 0
 
-pub range_passed : (horizon : ℕ) (a : Answer) → outcome_of a ≡ horizon_answer horizon → {k : ℕ} → a ≡ Ran k → horizon_outside horizon ≡ false
-range_passed horizon a e told = by (horizon_outside horizon) refl
+pub range_passed : (horizon : ℕ) (a : Answer) → outcome_of a ≡ horizon_answer horizon → {k : ℕ} → a ≡ Ran k → is_horizon_outside horizon ≡ false
+range_passed horizon a e told = by (is_horizon_outside horizon) refl
   where
-    by : (b : Bool) → horizon_outside horizon ≡ b → horizon_outside horizon ≡ false
+    by : (b : Bool) → is_horizon_outside horizon ≡ b → is_horizon_outside horizon ≡ false
     by true out = absurd (finished≢refused (sym (ap outcome_of told) ∙ e ∙ ap answer_if out))
     by false range = range
 
@@ -47,13 +47,13 @@ module _ (E : Edition) (s : List ℕ) (horizon : ℕ) (buffer : List ℕ) where
 
   -- a horizon that is refused
   pub range_refused : (a : Answer) → outcome_of a ≡ horizon_answer horizon → {n p k : ℕ} → a ≡ Refused n p k → RunLeaves E s horizon buffer (outcome_of a) buffer
-  range_refused a e told = by (horizon_outside horizon) refl
+  range_refused a e told = by (is_horizon_outside horizon) refl
     where
-      by : (b : Bool) → horizon_outside horizon ≡ b → RunLeaves E s horizon buffer (outcome_of a) buffer
+      by : (b : Bool) → is_horizon_outside horizon ≡ b → RunLeaves E s horizon buffer (outcome_of a) buffer
       by true out = nothing_written (outcome_of a) (ran-outside E s horizon (length buffer) out ∙ ap (λ o. wrote o []) (sym (e ∙ ap answer_if out)))
       by false range = absurd (finished≢refused (sym (e ∙ ap answer_if range) ∙ ap outcome_of told))
 
-  module _ (range : horizon_outside horizon ≡ false) where
+  module _ (range : is_horizon_outside horizon ≡ false) where
     -- a sheet that is refused
     pub not_accepted : (a : Answer) → outcome_of a ≡ checked E s → {n p k : ℕ} → a ≡ Refused n p k → RunLeaves E s horizon buffer (outcome_of a) buffer
     not_accepted a e told =

@@ -37,20 +37,20 @@ module _ (contents : Contents) (acc : Accepted (held_sheet contents)) (h : Holds
 
   pub byte_in_range : (v : ℕ) → v < contents.counts.nodes → get_or contents.nodes v 0 ≤ input_byte
   byte_in_range v l =
-      let b : v < node_count S = omega (arith, h.node_count_lem) in
+      let b : v < node_count S = omega (arith, h.counts_nodes) in
       subst (λ x. x ≤ input_byte) (sym (ap (λ bytes. get_or bytes v 0) h.nodes ∙ get_or-append S.nodes (replicate (most_nodes - node_count S) 0) 0 v b)) (acc.node_bytes v b)
 
   nodes_there : take (node_count S) contents.nodes ≡ S.nodes
   nodes_there = ap (take (node_count S)) h.nodes ∙ take-filled most_nodes 0 S.nodes (node_count S) refl
 
   pub modules_there : S.modules ≡ take contents.counts.modules contents.modules
-  modules_there = sym (ap (take contents.counts.modules) h.modules ∙ take-filled most_modules no_module S.modules contents.counts.modules h.module_count_lem)
+  modules_there = sym (ap (take contents.counts.modules) h.modules ∙ take-filled most_modules no_module S.modules contents.counts.modules h.counts_modules)
 
   drive_there : take contents.counts.events contents.drive ≡ S.drive
-  drive_there = ap (take contents.counts.events) h.drive ∙ take-filled most_events no_event S.drive contents.counts.events h.event_count_lem
+  drive_there = ap (take contents.counts.events) h.drive ∙ take-filled most_events no_event S.drive contents.counts.events h.counts_events
 
   watched_there : take contents.counts.watched contents.watched ≡ S.watched
-  watched_there = ap (take contents.counts.watched) h.watched ∙ take-filled most_watched 0 S.watched contents.counts.watched h.watched_count_lem
+  watched_there = ap (take contents.counts.watched) h.watched ∙ take-filled most_watched 0 S.watched contents.counts.watched h.counts_watched
 
   watched_size : length contents.watched ≡ most_watched
   watched_size =
@@ -60,7 +60,7 @@ module _ (contents : Contents) (acc : Accepted (held_sheet contents)) (h : Holds
   -- what the modules in the table drive are nodes
   pub driven_node : (table delays : List ℕ) → modules_in table delays contents.counts.modules ≡ in_working_order S → (k : ℕ) → k < contents.counts.modules → driven_at table k < 256
   driven_node table delays put k l =
-      let b : k < module_count S = rw h.module_count_lem at l in
+      let b : k < module_count S = rw h.counts_modules at l in
       let e = ap (λ m. m.output) (sym (in_table.module_at table delays contents.counts.modules k l) ∙ ap (λ ms. module_in ms k) put ∙ module_at S k b) in
       omega (arith, e, (acc.sound_modules (ordered_at S k) (known S k b)).output, acc.nodes)
 
@@ -69,7 +69,7 @@ module _ (contents : Contents) (acc : Accepted (held_sheet contents)) (h : Holds
       → ((k : ℕ) → k < contents.counts.modules → get_or given k 0 ≡ get_or values (module_in records k).output 0)
       → (k : ℕ) → k < module_count S → get_or (given_in table contents.counts.modules values given) k 0 ≡ get_or values (module_in records k).output 0
   given-first records table delays values given put gs k b =
-      let l : k < contents.counts.modules = rw h.module_count_lem b in
+      let l : k < contents.counts.modules = rw h.counts_modules b in
       let e : driven_at table k ≡ (module_in records k).output = ap (λ m. m.output) (sym (in_table.module_at table delays contents.counts.modules k l) ∙ ap (λ ms. module_in ms k) put ∙ get_or-take contents.counts.modules records k no_module l) in
       first-given table contents.counts.modules values given k l (gs k l ∙ ap (λ v. get_or values v 0) (sym e)) ∙ ap (λ v. get_or values v 0) e
 
@@ -90,12 +90,12 @@ module _ (contents : Contents) (acc : Accepted (held_sheet contents)) (h : Holds
           some_tick = some;
           few_ticks = few;
           modules = put ∙ ordered;
-          delayed = counted ∙ ap (delayed_below S) h.module_count_lem;
+          delayed = counted ∙ ap (delayed_below S) h.counts_modules;
           drive = driven ∙ drive_there;
           watched_size = watched_size;
           watched_there = watched_there;
-          watched_few = omega (arith, h.watched_count_lem, acc.watched);
+          watched_few = omega (arith, h.counts_watched, acc.watched);
           begun =
-              loaded S acc contents.nodes nodes_there records (rw (← h.module_count_lem) ordered) (given_in table contents.counts.modules values given)
-              (λ v l. vs v (rw h.node_count_lem l)) vl (given-first records table _ values given put gs) (length-listed contents.counts.modules _ ∙ h.module_count_lem) (given_levels table contents.counts.modules vl gl) (λ k l. ls k (rw h.module_count_lem l)) ll arrangement starts refl (rw (← ordered, ← put) (starts_of table delays contents.counts.modules starts ss)) refl;
+              loaded S acc contents.nodes nodes_there records (rw (← h.counts_modules) ordered) (given_in table contents.counts.modules values given)
+              (λ v l. vs v (rw h.counts_nodes l)) vl (given-first records table _ values given put gs) (length-listed contents.counts.modules _ ∙ h.counts_modules) (given_levels table contents.counts.modules vl gl) (λ k l. ls k (rw h.counts_modules l)) ll arrangement starts refl (rw (← ordered, ← put) (starts_of table delays contents.counts.modules starts ss)) refl;
         }

@@ -18,8 +18,8 @@ unfolding held_sheet
 held_is S c h =
     λ i.
     record {
-      nodes = (ap (take c.counts.nodes) h.nodes ∙ take-filled most_nodes 0 S.nodes c.counts.nodes h.node_count_lem) i;
-      modules = (ap (take c.counts.modules) h.modules ∙ take-filled most_modules no_module S.modules c.counts.modules h.module_count_lem) i;
-      drive = (ap (take c.counts.events) h.drive ∙ take-filled most_events no_event S.drive c.counts.events h.event_count_lem) i;
-      watched = (ap (take c.counts.watched) h.watched ∙ take-filled most_watched 0 S.watched c.counts.watched h.watched_count_lem) i;
+      nodes = (ap (take c.counts.nodes) h.nodes ∙ take-filled most_nodes 0 S.nodes c.counts.nodes h.counts_nodes) i;
+      modules = (ap (take c.counts.modules) h.modules ∙ take-filled most_modules no_module S.modules c.counts.modules h.counts_modules) i;
+      drive = (ap (take c.counts.events) h.drive ∙ take-filled most_events no_event S.drive c.counts.events h.counts_events) i;
+      watched = (ap (take c.counts.watched) h.watched ∙ take-filled most_watched 0 S.watched c.counts.watched h.counts_watched) i;
     }

@@ -8,33 +8,33 @@ use Rattle.sheet.specs.Layout.{nodes_counted, node_at, modules_counted, module_a
 use Rattle.sheet.proofs.Listed.{length-listed, get_d_listed}
 
 module _ (e : Edition) (s : List ℕ) where
-  pub node_count_lem : node_count (sheet_of e s) ≡ nodes_counted s
+  pub counts_nodes : node_count (sheet_of e s) ≡ nodes_counted s
   unfolding sheet_of
-  node_count_lem = length-listed (nodes_counted s) (node_at s)
+  counts_nodes = length-listed (nodes_counted s) (node_at s)
 
   pub node_byte_lem : (v : ℕ) → v < nodes_counted s → node_byte (sheet_of e s) v ≡ node_at s v
   unfolding sheet_of
   node_byte_lem v h = get_d_listed (nodes_counted s) (node_at s) v 0 h
 
-  pub module_count_lem : module_count (sheet_of e s) ≡ modules_counted s
+  pub counts_modules : module_count (sheet_of e s) ≡ modules_counted s
   unfolding sheet_of
-  module_count_lem = length-listed (modules_counted s) (module_at e s)
+  counts_modules = length-listed (modules_counted s) (module_at e s)
 
   pub module_of_lem : (m : ℕ) → m < modules_counted s → module_of (sheet_of e s) m ≡ module_at e s m
   unfolding sheet_of
   module_of_lem m h = get_d_listed (modules_counted s) (module_at e s) m no_module h
 
-  pub event_count_lem : event_count (sheet_of e s) ≡ events_counted e s
+  pub counts_events : event_count (sheet_of e s) ≡ events_counted e s
   unfolding sheet_of
-  event_count_lem = length-listed (events_counted e s) (event_at e s)
+  counts_events = length-listed (events_counted e s) (event_at e s)
 
   pub event_of_lem : (k : ℕ) → k < events_counted e s → event_of (sheet_of e s) k ≡ event_at e s k
   unfolding sheet_of
   event_of_lem k h = get_d_listed (events_counted e s) (event_at e s) k no_event h
 
-  pub watched_count_lem : watched_count (sheet_of e s) ≡ watched_counted e s
+  pub counts_watched : watched_count (sheet_of e s) ≡ watched_counted e s
   unfolding sheet_of
-  watched_count_lem = length-listed (watched_counted e s) (watched_at e s)
+  counts_watched = length-listed (watched_counted e s) (watched_at e s)
 
   pub watched_node_lem : (k : ℕ) → k < watched_counted e s → watched_node (sheet_of e s) k ≡ watched_at e s k
   unfolding sheet_of

@@ -9,10 +9,10 @@ abbrev pub filled {ℓ} : {A : Type ℓ} → ℕ → A → List A → List A
 filled size blank l = l ++ replicate (size - length l) blank
 
 pub record Holds (S : Sheet) (c : Contents) : Type 0 where
-  pub node_count_lem : c.counts.nodes ≡ node_count S
-  pub module_count_lem : c.counts.modules ≡ module_count S
-  pub event_count_lem : c.counts.events ≡ event_count S
-  pub watched_count_lem : c.counts.watched ≡ watched_count S
+  pub counts_nodes : c.counts.nodes ≡ node_count S
+  pub counts_modules : c.counts.modules ≡ module_count S
+  pub counts_events : c.counts.events ≡ event_count S
+  pub counts_watched : c.counts.watched ≡ watched_count S
   pub nodes : c.nodes ≡ filled most_nodes 0 S.nodes
   pub modules : c.modules ≡ filled most_modules no_module S.modules
   pub drive : c.drive ≡ filled most_events no_event S.drive

@@ -29,7 +29,7 @@ pub record OnLoop (S : Sheet) (v : ℕ) : Type 0 where
 -- the least node on any zero-delay loop
 pub record LeastOnLoop (S : Sheet) (v : ℕ) : Type 0 where
   pub node : v < node_count S
-  pub on_loop_lem : OnLoop S v
+  pub on_loop : OnLoop S v
   pub least : (u : ℕ) → u < v → OnLoop S u → ⊥
 
 -- no node is on a zero-delay loop
@@ -50,5 +50,5 @@ leads_over S zero u v = leads S u v
 leads_over S (suc k) u v = leads_over S k u v || leads_over S k u k && leads_over S k k v
 
 -- a node leads to itself
-abbrev pub on_loop : Sheet → ℕ → Bool
-on_loop S v = leads_over S (node_count S) v v
+abbrev pub is_on_loop : Sheet → ℕ → Bool
+is_on_loop S v = leads_over S (node_count S) v v

@@ -15,7 +15,7 @@ use Rattle.sheet.specs.Layout.{modules_place, modules_counted, module_place, mod
 use Rattle.sheet.specs.Layout.{watched_place, watched_counted, watch_place, watched_at, sheet_end, sheet_of}
 use Rattle.sheet.specs.Outcome.{Outcome, finished, refused}
 use Rattle.sheet.specs.Wiring.{used_inputs, unused_inputs, is_driven, is_input, driven_at_start}
-use Rattle.sheet.specs.Loop.{on_loop}
+use Rattle.sheet.specs.Loop.{is_on_loop}
 
 infix 20 ◌at◌when◌
 -- A row of the table at one place of the sheet: the refusal's number, its place, and whether its condition is met there.
@@ -109,7 +109,7 @@ abbrev pub left_over_rows : Edition → List ℕ → List Row
 left_over_rows e s = (17 at sheet_end e s when ltb (sheet_end e s) (length s)) ∷ []
 
 abbrev pub loop_rows : Sheet → ℕ → List Row
-loop_rows S v = (18 at v when on_loop S v) ∷ []
+loop_rows S v = (18 at v when is_on_loop S v) ∷ []
 
 -- The sections front to back. The least node with a condition is the first, since nodes rise.
 abbrev pub nodes_section : List ℕ → List Row

@@ -96,8 +96,12 @@ enum Changes {
 }
 
 /// Whether the text at a place stands in a function's contract: in the braces after `requires` or `ensures`, which may
-/// have a name between them.
+/// have a name between them, or in a line that brings in names for contracts.
 fn in_contract(code: &str, at: usize) -> bool {
+    let line = code[..at].rfind('\n').map_or(0, |end| end + 1);
+    if code[line..].starts_with("ghost use ") {
+        return true;
+    }
     let Some(word) = ["requires", "ensures"]
         .iter()
         .filter_map(|word| code[..at].rfind(word))

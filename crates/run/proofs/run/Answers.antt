@@ -13,7 +13,7 @@ use Rattle.sheet.proofs.Rows.{passed, stopped, went_on}
 use Rattle.sheet.proofs.Held.{held_is}
 use Rattle.format.specs.Accepted.{Accepted}
 use Rattle.format.proofs.Accepted.{accepted}
-use Rattle.network.specs.Run.{horizon_outside, ran_sheet, Leaves}
+use Rattle.network.specs.Run.{is_horizon_outside, ran_sheet, Leaves}
 use Rattle.network.proofs.WorkingOrder.{every_module_once}
 use Rattle.reader.proofs.Whole.{sheet_held}
 use Rattle.reach.proofs.Held.{network_held}
@@ -32,7 +32,7 @@ returns-in_default-a c =
     let a = c.args in
     let s = a.bytes.now in
     let r = c.read_sheet-read in
-    let range : horizon_outside a.horizon ≡ false = range_passed a.horizon c.horizon_answer-range.result c.horizon_answer-range.ensures c.in-Ran.is in
+    let range : is_horizon_outside a.horizon ≡ false = range_passed a.horizon c.horizon_answer-range.result c.horizon_answer-range.ensures c.in-Ran.is in
     not_accepted a.edition s a.horizon a.listing.now range r.result.answer
     (stopped (bytes_rows false a.edition s) _ r.ensures.answered _ _ _ c.in_default-a.is (loops_section (sheet_of a.edition s))) c.in_default-a.is
 
@@ -45,7 +45,7 @@ returns-in_default-b c =
     let S = sheet_of a.edition s in
     let r = c.read_sheet-read in
     let held = sheet_held a.edition s r.ensures c.in-Ran-a.is in
-    let range : horizon_outside a.horizon ≡ false = range_passed a.horizon c.horizon_answer-range.result c.horizon_answer-range.ensures c.in-Ran.is in
+    let range : is_horizon_outside a.horizon ≡ false = range_passed a.horizon c.horizon_answer-range.result c.horizon_answer-range.ensures c.in-Ran.is in
     let checked-by : outcome_of c.arranged-b.result ≡ checked a.edition s =
     went_on (bytes_rows false a.edition s) (loops_section S) _ r.ensures.answered _ c.in-Ran-a.is _
     (c.arranged-b.ensures S (network_held S r.result.contents held.0 held.1.nodes)).answered in
@@ -59,7 +59,7 @@ run_accepted-requires c =
     let S = sheet_of a.edition s in
     let r = c.read_sheet-read in
     let held = sheet_held a.edition s r.ensures c.in-Ran-a.is in
-    let range : horizon_outside a.horizon ≡ false = range_passed a.horizon c.horizon_answer-range.result c.horizon_answer-range.ensures c.in-Ran.is in
+    let range : is_horizon_outside a.horizon ≡ false = range_passed a.horizon c.horizon_answer-range.result c.horizon_answer-range.ensures c.in-Ran.is in
     let checked-by : outcome_of c.arranged-b.result ≡ checked a.edition s =
     went_on (bytes_rows false a.edition s) (loops_section S) _ r.ensures.answered _ c.in-Ran-a.is _
     (c.arranged-b.ensures S (network_held S r.result.contents held.0 held.1.nodes)).answered in
@@ -74,7 +74,7 @@ run_accepted-requires c =
       ticks.0,
       ticks.1,
       ap (take contents.counts.modules) c.in_working_order-records.ensures
-          ∙ working_records S contents.counts.modules ((every_module_once S).count ∙ sym held.0.module_count_lem) held.0.modules arranged.ordered,
+          ∙ working_records S contents.counts.modules ((every_module_once S).count ∙ sym held.0.counts_modules) held.0.modules arranged.ordered,
     )
 
 pub returns : goal.returns
@@ -85,7 +85,7 @@ returns c =
     let S = sheet_of a.edition s in
     let r = c.read_sheet-read in
     let held = sheet_held a.edition s r.ensures c.in-Ran-a.is in
-    let range : horizon_outside a.horizon ≡ false = range_passed a.horizon c.horizon_answer-range.result c.horizon_answer-range.ensures c.in-Ran.is in
+    let range : is_horizon_outside a.horizon ≡ false = range_passed a.horizon c.horizon_answer-range.result c.horizon_answer-range.ensures c.in-Ran.is in
     let checked-by : outcome_of c.arranged-b.result ≡ checked a.edition s =
     went_on (bytes_rows false a.edition s) (loops_section S) _ r.ensures.answered _ c.in-Ran-a.is _
     (c.arranged-b.ensures S (network_held S r.result.contents held.0 held.1.nodes)).answered in

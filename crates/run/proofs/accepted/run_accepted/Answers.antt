@@ -10,32 +10,32 @@ use Rattle.run.proofs.accepted.run_accepted.Goals as goal
 pub load_values-requires : goal.load_values-requires
 load_values-requires c =
     let p = c.requires in
-    (omega (arith, p.1.node_count_lem, p.0.nodes), byte_in_range c.args.contents p.0 p.1, zero_levels)
+    (omega (arith, p.1.counts_nodes, p.0.nodes), byte_in_range c.args.contents p.0 p.1, zero_levels)
 
 pub load_last-requires : goal.load_last-requires
 load_last-requires c =
     let p = c.requires in
-    (omega (arith, p.1.module_count_lem, p.0.modules), c.load_values.ensures.1, zero_levels)
+    (omega (arith, p.1.counts_modules, p.0.modules), c.load_values.ensures.1, zero_levels)
 
 pub count_delayed-delayed-requires : goal.count_delayed-delayed-requires
 count_delayed-delayed-requires c =
     let p = c.requires in
-    omega (arith, p.1.module_count_lem, p.0.modules)
+    omega (arith, p.1.counts_modules, p.0.modules)
 
 pub load_flags-shared-requires : goal.load_flags-shared-requires
 load_flags-shared-requires c =
     let p = c.requires in
-    (omega (arith, p.1.module_count_lem, p.0.modules), c.load_modules.ensures.1)
+    (omega (arith, p.1.counts_modules, p.0.modules), c.load_modules.ensures.1)
 
 pub load_counts-requires : goal.load_counts-requires
 load_counts-requires c =
     let p = c.requires in
-    (omega (arith, p.1.module_count_lem, p.0.modules), c.load_last.ensures.1, refl)
+    (omega (arith, p.1.counts_modules, p.0.modules), c.load_last.ensures.1, refl)
 
 pub load_starts-requires : goal.load_starts-requires
 load_starts-requires c =
     let p = c.requires in
-    (omega (arith, p.1.module_count_lem, p.0.modules), refl)
+    (omega (arith, p.1.counts_modules, p.0.modules), refl)
 
 -- the arrays as they stand when the ticks begin
 pub ticks-requires : goal.ticks-requires
@@ -57,7 +57,7 @@ ticks-requires c =
       c.tables-gates.ensures,
       c.empty-store.ensures,
       last.1,
-      tallied contents.counts.modules (omega (arith, p.1.module_count_lem, p.0.modules)) flags.1 flags.2 counted.1
+      tallied contents.counts.modules (omega (arith, p.1.counts_modules, p.0.modules)) flags.1 flags.2 counted.1
           (driven_node contents p.0 p.1 _ _ (put ∙ p.4)) counted.0,
     )
 
