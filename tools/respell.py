@@ -33,6 +33,10 @@ FIXED = {
     "module-count": "counts_modules",
     "event-count": "counts_events",
     "watched-count": "counts_watched",
+    "some-tick": "some_tick",
+    "none-counted": "none_counted",
+    "given-worked": "given_worked",
+    "pending-worked": "pending_worked",
     "horizonOutside": "is_horizon_outside",
     "onLoop": "is_on_loop",
     "inOrder": "in_order",
@@ -103,7 +107,7 @@ def main(arguments):
             definitions |= {humps(n) for n in re.findall(r"(?m)^(?:abbrev|unfoldable) pub ([^\s:{}()]+)", t) if "-" not in n}
     turned = {}
     for name in sorted(declared):
-        new = respelled(name, definitions)
+        new = FIXED.get(name) or respelled(name, definitions)
         if new != name:
             turned[name] = new
     # Two names that fall together in a file: the definition has the plain name, a lemma gets _lem. A free word of a file is a variable
@@ -112,7 +116,7 @@ def main(arguments):
     words = {p: set(DELIMITERS.split(re.sub(r"\.[\w'-]+", " ", t))) for p, t in code.items()}
     taken = {}
     for old in sorted(turned, key=lambda n: ("-" in n, n)):
-        new = FIXED.get(old, turned[old])
+        new = turned[old]
         own = [p for p in code if old in tokens[p]]
         while old not in FIXED and any(new in words[p] or (p, new) in taken for p in own):
             new += "_lem" if not new.endswith("_lem") else "'"
