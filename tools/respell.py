@@ -25,7 +25,8 @@ APART = {
     "crates/network/proofs/Runs.antt": ("after_check", "after_check_lem"),
     "crates/pulses/proofs/Exact.antt": ("record_of", "record_shown"),
 }
-# Names that would fall together with a definition's, a condition's or a function's, which keep theirs.
+# Names that would fall together with a definition's, a condition's or a function's, which keep theirs, and those that hold the older
+# name of get_or.
 FIXED = {
     "driven-at-start": "driven_from_start",
     "renumbered-listing": "listing_renumbered",
@@ -33,6 +34,11 @@ FIXED = {
     "module-count": "counts_modules",
     "event-count": "counts_events",
     "watched-count": "counts_watched",
+    "getD-listed": "get_or-listed",
+    "getD-mem": "get_or-mem",
+    "getD-allBytes": "get_or-all_bytes",
+    "get_d_map": "get_or-map_within",
+    "get_d_default": "get_or-default",
     "some-tick": "some_tick",
     "none-counted": "none_counted",
     "given-worked": "given_worked",

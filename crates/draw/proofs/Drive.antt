@@ -6,7 +6,7 @@ use native.Mathlib.Decide.{dec_lt}
 use Rattle.sheet.specs.declared.Event.{Event}
 use Rattle.sheet.specs.Enumerate.{listed}
 use Rattle.sheet.specs.Refusal.{key}
-use Rattle.sheet.proofs.Listed.{length-listed, get_d_listed}
+use Rattle.sheet.proofs.Listed.{length-listed, get_or-listed}
 use Rattle.format.proofs.Accepted.{rises}
 use Rattle.draw.specs.Draw.{draw}
 use Rattle.draw.specs.Drive.{tick_draw, input_draw, tick_before, first_event, later_event, drawn_drive}
@@ -38,14 +38,14 @@ module _ (inputs : List ℕ) (seed : ℕ) where
     unfolding drawn_drive
     first_at i h d =
         get_or-append (listed (length inputs) (first_event inputs seed)) (listed n (later_event inputs seed)) d i (rw (length-listed (length inputs) (first_event inputs seed)) h)
-        ∙ get_d_listed (length inputs) (first_event inputs seed) i d h
+        ∙ get_or-listed (length inputs) (first_event inputs seed) i d h
 
     pub later_at : (k : ℕ) → k < n → (d : Event) → get_or drawn (length inputs + k) d ≡ later_event inputs seed k
     unfolding drawn_drive
     later_at k h d =
         ap (λ l. get_or (listed (length inputs) (first_event inputs seed) ++ listed n (later_event inputs seed)) (l + k) d) (sym (length-listed (length inputs) (first_event inputs seed)))
         ∙ get_or-append-add (listed (length inputs) (first_event inputs seed)) (listed n (later_event inputs seed)) k d
-        ∙ get_d_listed n (later_event inputs seed) k d h
+        ∙ get_or-listed n (later_event inputs seed) k d h
 
     pub rest_at : (a : ℕ) → length inputs ≤ a → a < length inputs + n → (d : Event) → get_or drawn a d ≡ later_event inputs seed (a - length inputs)
     rest_at a l h d = ap (λ i. get_or drawn i d) (omega (arith, l)) ∙ later_at (a - length inputs) (omega (arith, l, h)) d

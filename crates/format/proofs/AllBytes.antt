@@ -29,15 +29,15 @@ module _ {ℓ} {A : Type ℓ} where
     length-all_bytes (r ∷ rs) = length-append (bytes r) (all_bytes bytes rs) ∙ omega (arith, sized r, length-all_bytes rs)
 
     -- record i stands at size * i
-    pub get_d_all_bytes : (rs : List A) (d : A) (i j : ℕ) → i < length rs → j < size → get_or (all_bytes bytes rs) (size * i + j) 0 ≡ get_or (bytes (get_or rs i d)) j 0
+    pub get_or-all_bytes : (rs : List A) (d : A) (i j : ℕ) → i < length rs → j < size → get_or (all_bytes bytes rs) (size * i + j) 0 ≡ get_or (bytes (get_or rs i d)) j 0
     unfolding all_bytes
-    get_d_all_bytes [] d i j h b = absurd (not-suc-le-zero h)
-    get_d_all_bytes (r ∷ rs) d zero j h b = rw first (get_or-append (bytes r) (all_bytes bytes rs) 0 j (rw (sized r) b))
+    get_or-all_bytes [] d i j h b = absurd (not-suc-le-zero h)
+    get_or-all_bytes (r ∷ rs) d zero j h b = rw first (get_or-append (bytes r) (all_bytes bytes rs) 0 j (rw (sized r) b))
       where
         first : size * 0 + j ≡ j
         first = omega arith
-    get_d_all_bytes (r ∷ rs) d (suc i) j h b =
-        rw next (get_or-append-add (bytes r) (all_bytes bytes rs) (size * i + j) 0 ∙ get_d_all_bytes rs d i j (le_of_suc-le-suc h) b)
+    get_or-all_bytes (r ∷ rs) d (suc i) j h b =
+        rw next (get_or-append-add (bytes r) (all_bytes bytes rs) (size * i + j) 0 ∙ get_or-all_bytes rs d i j (le_of_suc-le-suc h) b)
       where
         next : size * suc i + j ≡ length (bytes r) + (size * i + j)
         next = omega (arith, sized r)

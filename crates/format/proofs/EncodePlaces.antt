@@ -10,7 +10,7 @@ use Rattle.sheet.specs.Layout.{count_size, event_size, nodes_counted, node_at, m
 use Rattle.sheet.specs.Sheet.{Sheet, no_module, no_event}
 use Rattle.format.specs.Accepted.{Known}
 use Rattle.format.specs.Encode.{module_bytes, event_bytes, all_bytes, encode, Encodable}
-use Rattle.sheet.proofs.Listed.{listed-is, get_d_mem}
+use Rattle.sheet.proofs.Listed.{listed-is, get_or-mem}
 use Rattle.format.proofs.AllBytes.{length-all_bytes}
 use Rattle.format.proofs.EncodeSpan.{Stand, span_whole, stand_at, record_stands}
 use Rattle.format.proofs.EncodeRecord.{module_length, module_read, event_read}
@@ -50,7 +50,7 @@ module _ {E : Edition} (known : Known E) (sheet : Sheet) (fits : Encodable E she
 
   pub module_of_lem : (m : ℕ) (d : Module) → m < length sheet.modules → module_at E (encode E sheet) m ≡ get_or sheet.modules m d
   module_of_lem m d b =
-      module_read known (encode E sheet) _ _ (fits.delays _ (get_d_mem sheet.modules m d b)) (fits.room _ (get_d_mem sheet.modules m d b))
+      module_read known (encode E sheet) _ _ (fits.delays _ (get_or-mem sheet.modules m d b)) (fits.room _ (get_or-mem sheet.modules m d b))
       (record_stands (encode E sheet) E.size (module_bytes E) (module_length known) _ sheet.modules d m b modules_section.there)
 
   drive_place_lem : length (modules_bytes E sheet) ≡ drive_place E (encode E sheet)
@@ -64,7 +64,7 @@ module _ {E : Edition} (known : Known E) (sheet : Sheet) (fits : Encodable E she
 
   pub event_of_lem : (e : ℕ) (d : Event) → e < length sheet.drive → event_at E (encode E sheet) e ≡ get_or sheet.drive e d
   event_of_lem e d b =
-      event_read (encode E sheet) _ _ (fits.ticks _ (get_d_mem sheet.drive e d b))
+      event_read (encode E sheet) _ _ (fits.ticks _ (get_or-mem sheet.drive e d b))
       (record_stands (encode E sheet) event_size event_bytes (λ r. refl) _ sheet.drive d e b drive_section.there)
 
   watched_place_lem : length (drive_bytes E sheet) ≡ watched_place E (encode E sheet)

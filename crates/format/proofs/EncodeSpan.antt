@@ -9,8 +9,8 @@ use lib.Seq.{take_at, drop_at}
 use Rattle.sheet.specs.Enumerate.{each, listed}
 use Rattle.sheet.specs.Bytes.{byte_at}
 use Rattle.format.specs.Encode.{all_bytes}
-use Rattle.sheet.proofs.Listed.{length-listed, get_d_listed, listed-is}
-use Rattle.format.proofs.AllBytes.{length-all_bytes, get_d_all_bytes, all_bytes-append}
+use Rattle.sheet.proofs.Listed.{length-listed, get_or-listed, listed-is}
+use Rattle.format.proofs.AllBytes.{length-all_bytes, get_or-all_bytes, all_bytes-append}
 
 abbrev pub span : List ℕ → ℕ → ℕ → List ℕ
 span s p n = listed n (λ j. byte_at s (p + j))
@@ -59,7 +59,7 @@ module _ (s : List ℕ) where
       parts = span_joined p n (length b) ∙ rw (length-append a b) at h
 
   pub stand_at : (p : ℕ) (bytes : List ℕ) (d j : ℕ) → j < length bytes → Stand s p bytes → byte_at s (p + j) ≡ get_or bytes j d
-  stand_at p bytes d j b h = sym (get_d_listed (length bytes) (λ j. byte_at s (p + j)) j d b) ∙ ap (λ l. get_or l j d) h
+  stand_at p bytes d j b h = sym (get_or-listed (length bytes) (λ j. byte_at s (p + j)) j d b) ∙ ap (λ l. get_or l j d) h
 
   -- records of one size, each at its own place
   module _ {ℓ} {A : Type ℓ} (size : ℕ) (bytes : A → List ℕ) where
@@ -80,4 +80,4 @@ module _ (s : List ℕ) where
         at : (j : ℕ) → j < size → byte_at s (p + size * i + j) ≡ get_or (bytes r) j 0
         at j c =
             let inside : size * i + j < length (all_bytes bytes rs) = omega (arith, length-all_bytes size bytes sized rs, mul-le-mul_left size b) in
-            rw (add_assoc p (size * i) j) (stand_at p (all_bytes bytes rs) 0 (size * i + j) inside h ∙ get_d_all_bytes size bytes sized rs d i j b c)
+            rw (add_assoc p (size * i) j) (stand_at p (all_bytes bytes rs) 0 (size * i + j) inside h ∙ get_or-all_bytes size bytes sized rs d i j b c)

@@ -17,7 +17,7 @@ use Rattle.sheet.specs.Loop.{Chain, link, more, Feeds}
 use Rattle.sheet.specs.Outcome.{finished}
 use Rattle.sheet.specs.Refusal.{key, checked_strictly}
 use Rattle.sheet.specs.Sheet.{Sheet, node_count, node_byte, no_module, module_count, module_of, no_event, event_count, event_of, watched_count, watched_node}
-use Rattle.sheet.proofs.Listed.{length-listed, get_d_listed, listed_all}
+use Rattle.sheet.proofs.Listed.{length-listed, get_or-listed, listed_all}
 use Rattle.format.specs.Accepted.{Driven, Input, SoundModule, Accepted, Known, the_first, the_second, HasKinds, DrivenAtStart, StrictlyAcceptedIn}
 use Rattle.format.specs.Encode.{room_for_inputs, encode, Bytes, Encodable, OneByteEach}
 use Rattle.format.proofs.Accepted.{strictly_conversely}
@@ -66,16 +66,16 @@ watched = length-listed most_watched (λ v. v)
 
 -- and what stands at a number
 byte_at : (v : ℕ) → v < node_count full → node_byte full v ≡ byte_of v
-byte_at v h = get_d_listed most_nodes byte_of v 0 (rw nodes at h)
+byte_at v h = get_or-listed most_nodes byte_of v 0 (rw nodes at h)
 
 module_at : (m : ℕ) → m < module_count full → module_of full m ≡ buffer m
-module_at m h = get_d_listed most_modules buffer m no_module (rw modules at h)
+module_at m h = get_or-listed most_modules buffer m no_module (rw modules at h)
 
 event_at : (k : ℕ) → k < event_count full → event_of full k ≡ event k
-event_at k h = get_d_listed most_events event k no_event (rw events at h)
+event_at k h = get_or-listed most_events event k no_event (rw events at h)
 
 watched_at : (k : ℕ) → k < watched_count full → watched_node full k ≡ k
-watched_at k h = get_d_listed most_watched (λ v. v) k 0 (rw watched at h)
+watched_at k h = get_or-listed most_watched (λ v. v) k 0 (rw watched at h)
 
 byte_small : (v : ℕ) → byte_of v ≤ input_byte
 byte_small zero = lit≤ tt

@@ -11,10 +11,10 @@ use Rattle.level.specs.Level.{low, high, unknown, none}
 use Rattle.level.specs.Gate.{counted, some, odd_ones, xor}
 
 -- within a list the default is not looked at
-pub get_d_default : (l : List ℕ) (i d e : ℕ) → i < length l → get_or l i d ≡ get_or l i e
-get_d_default [] i d e h = absurd (not-suc-le-zero h)
-get_d_default (a ∷ l) zero d e h = refl
-get_d_default (a ∷ l) (suc i) d e h = get_d_default l i d e (le_of_suc-le-suc h)
+pub get_or-default : (l : List ℕ) (i d e : ℕ) → i < length l → get_or l i d ≡ get_or l i e
+get_or-default [] i d e h = absurd (not-suc-le-zero h)
+get_or-default (a ∷ l) zero d e h = refl
+get_or-default (a ∷ l) (suc i) d e h = get_or-default l i d e (le_of_suc-le-suc h)
 
 -- whether a count is odd that is so far, with those still to come
 abbrev pub counting : Bool → Bool → Bool

@@ -6,7 +6,7 @@ use native.Mathlib.Nat.{zero-add}
 use lib.ListN.{length, get_or}
 use Rattle.sheet.specs.Bytes.{byte_at}
 use Rattle.sheet.specs.Enumerate.{each}
-use Rattle.sheet.proofs.Listed.{get_d_mem}
+use Rattle.sheet.proofs.Listed.{get_or-mem}
 use Rattle.format.specs.Encode.{long_bytes, all_bytes}
 use Rattle.format.proofs.EncodeSpan.{span, span_whole, stand_halves, record_stands}
 use Rattle.format.proofs.EncodeNumber.{long_read}
@@ -37,7 +37,7 @@ pub read_back : (records : List Ended) (buffer : List ℕ) (d : Ended) → ((r :
     → record_in (buffer_after records buffer) (record_size * i) ≡ get_or records i d
 unfolding buffer_after
 read_back records buffer d small i h =
-    record_read b (record_size * i) (get_or records i d) (small (get_or records i d) (get_d_mem records i d h))
+    record_read b (record_size * i) (get_or records i d) (small (get_or records i d) (get_or-mem records i d h))
     (rw zero-add at (record_stands b record_size record_bytes (λ r. refl) 0 records d i h (stand_halves b 0 (all_bytes record_bytes records) _ (span_whole b)).0))
   where
     b : List ℕ

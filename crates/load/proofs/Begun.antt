@@ -10,7 +10,7 @@ use Rattle.sheet.specs.declared.Module.{Module}
 use Rattle.sheet.specs.Limits.{input_byte}
 use Rattle.sheet.specs.Sheet.{Sheet, node_count, node_byte, no_module, module_count, module_of, output_of}
 use Rattle.sheet.specs.WorkingOrder.{working_order, in_working_order}
-use Rattle.sheet.proofs.Listed.{get_d_map}
+use Rattle.sheet.proofs.Listed.{get_or-map_within}
 use Rattle.format.specs.Accepted.{Accepted, Driven}
 use Rattle.network.proofs.WorkingOrder.{every_module_once}
 use Rattle.network.proofs.RecordsInOrder.{record_there}
@@ -55,7 +55,7 @@ module _ (S : Sheet) (acc : Accepted S) where
   known_modules k h =
       let q : k < length (working_order S) = rw (length-map (working_order S) (module_of S)) at h in
       let m = acc.sound_modules (ordered_at S k) ((every_module_once S).known k (rw (every_module_once S).count at q)) in
-      rw (get_d_map (module_of S) (working_order S) k 0 no_module q) (record { has_rule = m.kind; allowed = m.parameter })
+      rw (get_or-map_within (module_of S) (working_order S) k 0 no_module q) (record { has_rule = m.kind; allowed = m.parameter })
 
   -- nodes as they were read, and records in working order
   module _ (nodes : List ℕ) (read : take (node_count S) nodes ≡ S.nodes) (records : List Module) (ordered : take (module_count S) records ≡ in_working_order S)

@@ -15,7 +15,7 @@ use Rattle.sheet.specs.Limits.{input_byte}
 use Rattle.sheet.specs.Sheet.{Sheet, node_count, node_byte}
 use Rattle.sheet.specs.Wiring.{is_input}
 use Rattle.sheet.proofs.Chosen.{chosen_same, chosen_all, chosen-mem, chosen_few}
-use Rattle.sheet.proofs.Listed.{get_d_mem}
+use Rattle.sheet.proofs.Listed.{get_or-mem}
 use Rattle.sheet.proofs.Tests.{Tells, tells_as, tells_eq, tells_alike}
 use Rattle.format.specs.Accepted.{Input, Accepted}
 use Rattle.format.proofs.Condition.{tells_input}
@@ -28,7 +28,7 @@ module _ (S : Sheet) where
       (chosen_all (Input S) (node_count S) (is_input S) (λ u. u) (λ k h e. (tells_input S k).0 e) v, λ i. chosen-mem (node_count S) (is_input S) (λ u. u) v i.node ((tells_input S v).1 i))
 
   pub input_at : (i : ℕ) → i < length (sheet_inputs S) → Input S (get_or (sheet_inputs S) i 0)
-  input_at i h = (inputs_are (get_or (sheet_inputs S) i 0)).0 (get_d_mem (sheet_inputs S) i 0 h)
+  input_at i h = (inputs_are (get_or (sheet_inputs S) i 0)).0 (get_or-mem (sheet_inputs S) i 0 h)
 
   pub input_place : (v : ℕ) → Input S v → (i : ℕ) × (i < length (sheet_inputs S)) × (get_or (sheet_inputs S) i 0 ≡ v)
   input_place v i = let p = mem_place ((inputs_are v).1 i) in (p.0, p.1, p.2 0)

@@ -18,7 +18,7 @@ use Rattle.sheet.specs.Enumerate.{each, listed}
 use Rattle.sheet.specs.Limits.{input_byte}
 use Rattle.sheet.specs.Sheet.{Sheet, node_count, node_byte, no_event, event_count, event_of}
 use Rattle.sheet.proofs.Each.{each-mem}
-use Rattle.sheet.proofs.Listed.{get_d_mem}
+use Rattle.sheet.proofs.Listed.{get_or-mem}
 use Rattle.sheet.proofs.Tests.{tells_below, decided, fails}
 use Rattle.format.specs.Accepted.{Accepted, Driven, Input}
 use Rattle.network.specs.Timeline.{Cells, given, drive_cell}
@@ -113,7 +113,7 @@ module _ (S : Sheet) (acc : Accepted S) (t : ℕ) where
       out m =
           let (k, h, n) = (each-mem (next - first) (λ i. event_of S (first + i) ∷ [])).0 m in
           let (b, d) = of_tick (first + k) (omega arith) (omega arith) in
-          rw (Memᴰ.eq_of_singleton n) (get_d_mem S.drive (first + k) no_event b, d)
+          rw (Memᴰ.eq_of_singleton n) (get_or-mem S.drive (first + k) no_event b, d)
 
       into : Memᴰ e S.drive × (e.tick ≡ t) → Memᴰ e these
       into (m, d) =
@@ -147,7 +147,7 @@ module _ (S : Sheet) (acc : Accepted S) (t : ℕ) where
       where
         go : Dec ((i : ℕ) × (i < event_count S) × On v t (event_of S i)) → get_or (drive_tick S.drive t values) v 0 ≡ given S.drive v t (get_or values v 0)
         go (yes (i, h, o)) =
-            let m = get_d_mem S.drive i no_event h in
+            let m = get_or-mem S.drive i no_event h in
             as_given (event_of S i).value (λ e n p. (drivable S acc).one_value e (event_of S i) n m (p.0 ∙ sym o.0) (p.1 ∙ sym o.1)) (inr (event_of S i, m, o))
         go (no none) = as_given (get_or values v 0) (members_all _ S.drive no_event (λ i h o. absurd (none (i, h, o)))) (inl refl)
 

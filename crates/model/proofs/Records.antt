@@ -11,7 +11,7 @@ use native.Mathlib.Omega.{arith}
 use Prim.Native.Nat.{ℕ, zero, suc, ◌<◌, ◌≤◌}
 use Rattle.std.specs.Prelude.{if◌then◌else◌}
 use Rattle.sheet.specs.Sheet.{Sheet, node_count, watched_count, watched_node}
-use Rattle.sheet.proofs.Listed.{get_d_mem}
+use Rattle.sheet.proofs.Listed.{get_or-mem}
 use Rattle.format.specs.Accepted.{Accepted}
 use Rattle.network.specs.Timeline.{Cells}
 use Rattle.network.specs.Listing.{changes, record_of, records_at}
@@ -62,4 +62,4 @@ module _ (S : Sheet) (c : Cells) (t : ℕ) (acc : Accepted S) (values shown : Li
         let n = acc.watched_nodes k h in
         rw (shows values shown S.watched)
         (puts_at (λ v. v) (λ v. get_or values v 0) (watched_node S k) (c t (watched_node S k)) S.watched shown (omega (arith, acc.nodes))
-        (λ v m e. rw e (cells (watched_node S k) n)) (inr (watched_node S k, get_d_mem S.watched k 0 h, refl)))
+        (λ v m e. rw e (cells (watched_node S k) n)) (inr (watched_node S k, get_or-mem S.watched k 0 h, refl)))

@@ -12,7 +12,7 @@ use Rattle.level.proofs.Gates.{values_map, length_used, level_bound}
 use Rattle.sheet.specs.Sheet.{Sheet, node_count, node_byte, no_module, module_count, module_of}
 use Rattle.sheet.specs.Wiring.{inputs, module_rule, used_inputs}
 use Rattle.sheet.specs.WorkingOrder.{working_order, in_working_order}
-use Rattle.sheet.proofs.Listed.{get_d_map}
+use Rattle.sheet.proofs.Listed.{get_or-map_within}
 use Rattle.format.specs.Accepted.{Accepted, Driven, Input, SoundModule}
 use Rattle.format.proofs.Condition.{tells_driven, tells_input}
 use Rattle.network.specs.Timeline.{Cells, drive_cell, driven_cell, input_cells}
@@ -63,7 +63,7 @@ module _ (S : Sheet) where
 
     module _ (h : k < module_count S) where
       pub module_at : module_in (in_working_order S) k ≡ placed S k
-      module_at = get_d_map (module_of S) (working_order S) k 0 no_module (rw (every_module_once S).count h)
+      module_at = get_or-map_within (module_of S) (working_order S) k 0 no_module (rw (every_module_once S).count h)
 
       pub known : ordered_at S k < module_count S
       known = (every_module_once S).known k h

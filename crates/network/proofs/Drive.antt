@@ -14,7 +14,7 @@ use Rattle.sheet.specs.Sheet.{event_count, event_of, Sheet, no_event}
 use Rattle.sheet.specs.declared.Event.{Event}
 use Rattle.format.specs.Accepted.{Accepted}
 use Rattle.network.specs.Timeline.{given, drive_cell}
-use Rattle.sheet.proofs.Listed.{get_d_mem}
+use Rattle.sheet.proofs.Listed.{get_or-mem}
 use Rattle.sheet.proofs.Tests.{Tells, tells_eq, tells_and, fails}
 use Rattle.network.proofs.Drivable.{drivable}
 use Rattle.network.proofs.Rising.{members_all}
@@ -83,7 +83,7 @@ module _ (S : Sheet) (v t : ℕ) where
   input_cell acc k h n b none =
       latest_value S.drive v (drivable S acc).one_value t (event_of S k)
       (record {
-        listed = get_d_mem S.drive k no_event h;
+        listed = get_or-mem S.drive k no_event h;
         node = n;
         tick = b;
         none_later = members_all (λ f. f.node ≡ v → (event_of S k).tick < f.tick → f.tick ≤ t → ⊥) S.drive no_event none;

@@ -16,7 +16,7 @@ use Rattle.level.specs.Level.{none}
 use Rattle.level.proofs.Join.{neutral_right, equal_stay, commutative, associative, joined-append}
 use Rattle.sheet.specs.Enumerate.{any_below, each, chosen, listed}
 use Rattle.sheet.proofs.Each.{each_same}
-use Rattle.sheet.proofs.Listed.{listed-is, get_d_map}
+use Rattle.sheet.proofs.Listed.{listed-is, get_or-map_within}
 use Rattle.format.proofs.OneToOne.{OneToOne, instead, at, other, again, not_last, last_below, less}
 use Rattle.network.specs.Order.{Listed}
 use Rattle.network.proofs.Listed.{one_to_one}
@@ -92,7 +92,7 @@ below_reordered (suc n) g o f =
 -- a list, its entries in any order
 pub joined_in_any_order : (l order : List ℕ) → Listed (length l) order → joined (map (λ i. get_or l i none) order) ≡ joined l
 joined_in_any_order l order each-once =
-    ap joined (sym (listed-is (map (λ i. get_or l i none) order) none (length l) (λ k. get_or l (get_or order k 0) none) (sym (length-map order _ ∙ each-once.count)) (λ k h. sym (get_d_map (λ i. get_or l i none) order k 0 none (rw (length-map order (λ i. get_or l i none)) at h)))))
+    ap joined (sym (listed-is (map (λ i. get_or l i none) order) none (length l) (λ k. get_or l (get_or order k 0) none) (sym (length-map order _ ∙ each-once.count)) (λ k h. sym (get_or-map_within (λ i. get_or l i none) order k 0 none (rw (length-map order (λ i. get_or l i none)) at h)))))
     ∙ below_reordered (length l) (λ k. get_or order k 0) (one_to_one each-once) (λ i. get_or l i none)
     ∙ ap joined (listed-is l none (length l) (λ i. get_or l i none) refl (λ i h. refl))
 

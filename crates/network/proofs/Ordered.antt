@@ -11,7 +11,7 @@ use Rattle.sheet.specs.Sheet.{Sheet, module_count, module_of}
 use Rattle.sheet.specs.Wiring.{DrivesInput}
 use Rattle.network.specs.Order.{ValidOrder}
 use Rattle.network.specs.Timeline.{at}
-use Rattle.sheet.proofs.Listed.{get_d_mem}
+use Rattle.sheet.proofs.Listed.{get_or-mem}
 use Rattle.network.proofs.Listed.{position}
 use Rattle.network.proofs.Rising.{mem_place}
 
@@ -46,7 +46,7 @@ module _ (S : Sheet) where
     pub every_module : (m : ℕ) → m < module_count S → Memᴰ m order
     every_module m h =
         let p = position valid.listed m h in
-        Memᴰ.cast (sym p.2) (get_d_mem order p.0 0 (rw valid.listed.count p.1))
+        Memᴰ.cast (sym p.2) (get_or-mem order p.0 0 (rw valid.listed.count p.1))
 
     pub ordered : Ordered S order
     ordered = by_places order apart (λ j k h l. valid.after j k (within j h) (within k l))

@@ -11,7 +11,7 @@ use Rattle.sheet.specs.WorkingOrder.{working_order, in_working_order}
 use Rattle.sheet.specs.declared.Module.{Module}
 use Rattle.format.specs.Accepted.{Accepted}
 use Rattle.network.specs.Order.{record_at, RecordsInOrder}
-use Rattle.sheet.proofs.Listed.{get_d_map}
+use Rattle.sheet.proofs.Listed.{get_or-map_within}
 use Rattle.network.proofs.Ordered.{ordered}
 use Rattle.network.proofs.WorkingOrder.{every_module_once, working_order_lem}
 
@@ -21,7 +21,7 @@ module _ (S : Sheet) (records : List Module) (ordered : take (module_count S) re
   record_there k h =
       sym (get_or-take (module_count S) records k no_module h)
       ∙ ap (λ (l : List Module). get_or l k no_module) ordered
-      ∙ get_d_map (module_of S) (working_order S) k 0 no_module (rw (every_module_once S).count h)
+      ∙ get_or-map_within (module_of S) (working_order S) k 0 no_module (rw (every_module_once S).count h)
 
   pub records_in_order : Accepted S → RecordsInOrder S (working_order S) records
   records_in_order acc =

@@ -10,7 +10,7 @@ use Rattle.sheet.specs.Sheet.{Sheet, node_count, module_count, module_of, node_b
 use Rattle.network.specs.Order.{Listed}
 use Rattle.network.specs.Renumbering.{Permutation, renumbered, renumbered_module, renumbered_event}
 use Rattle.network.specs.Timeline.{drive_cell}
-use Rattle.sheet.proofs.Listed.{length-listed, get_d_listed, get_d_map}
+use Rattle.sheet.proofs.Listed.{length-listed, get_or-listed, get_or-map_within}
 use Rattle.network.proofs.Drivable.{Drivable}
 use Rattle.network.proofs.Given.{Gives, drive_same}
 use Rattle.network.proofs.Listed.{position}
@@ -39,11 +39,11 @@ module _ (S : Sheet) (π : Permutation (node_count S)) (order : List ℕ) (each-
 
   pub node_byte-renumbered : (w : ℕ) → w < node_count S → node_byte P w ≡ node_byte S (π.from w)
   unfolding renumbered
-  node_byte-renumbered w h = get_d_listed (node_count S) (λ w. node_byte S (π.from w)) w 0 h
+  node_byte-renumbered w h = get_or-listed (node_count S) (λ w. node_byte S (π.from w)) w 0 h
 
   pub module_of-renumbered : (k : ℕ) → k < module_count S → module_of P k ≡ renumbered_module π.to (module_of S (get_or order k 0))
   unfolding renumbered
-  module_of-renumbered k h = get_d_map (λ m. renumbered_module π.to (module_of S m)) order k 0 no_module (rw each-once.count h)
+  module_of-renumbered k h = get_or-map_within (λ m. renumbered_module π.to (module_of S m)) order k 0 no_module (rw each-once.count h)
 
   -- where a module stands
   pub module_stands : (m : ℕ) → m < module_count S → (k : ℕ) × (k < module_count S) × (module_of P k ≡ renumbered_module π.to (module_of S m))

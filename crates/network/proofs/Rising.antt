@@ -9,7 +9,7 @@ use native.Mathlib.Omega.{arith}
 use Prim.Native.Nat.{ℕ, zero, suc, ◌<◌, zero-le, suc-le-suc}
 use Rattle.sheet.specs.Enumerate.{each}
 use Rattle.sheet.proofs.Each.{each-mem}
-use Rattle.sheet.proofs.Listed.{get_d_mem}
+use Rattle.sheet.proofs.Listed.{get_or-mem}
 
 module _ {ℓ} {A : Type ℓ} where
   -- every entry and every later one
@@ -39,7 +39,7 @@ module _ {ℓ} {A : Type ℓ} where
     pub pairs_at : (l : List A) → Pairs R l → (j k : ℕ) → j < k → k < length l → (d : A) → R (get_or l j d) (get_or l k d)
     pairs_at [] p j k h b d = absurd (not-suc-le-zero b)
     pairs_at (a ∷ xs) p j zero h b d = absurd (not-suc-le-zero h)
-    pairs_at (a ∷ xs) p zero (suc k) h b d = p.0 (get_or xs k d) (get_d_mem xs k d (le_of_suc-le-suc b))
+    pairs_at (a ∷ xs) p zero (suc k) h b d = p.0 (get_or xs k d) (get_or-mem xs k d (le_of_suc-le-suc b))
     pairs_at (a ∷ xs) p (suc j) (suc k) h b d = pairs_at xs p.1 j k (le_of_suc-le-suc h) (le_of_suc-le-suc b) d
 
     pub pairs_append : (l m : List A) → Pairs R l → Pairs R m → ((a b : A) → Memᴰ a l → Memᴰ b m → R a b) → Pairs R (l ++ m)

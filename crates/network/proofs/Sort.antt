@@ -12,7 +12,7 @@ use native.Mathlib.Omega.{arith}
 use Prim.Native.Nat.{ℕ, suc, ◌<◌}
 use Rattle.std.specs.Prelude.{cond}
 use Rattle.network.specs.Renumbering.{insert, sort}
-use Rattle.sheet.proofs.Listed.{get_d_mem}
+use Rattle.sheet.proofs.Listed.{get_or-mem}
 use Rattle.network.proofs.Rising.{Pairs, Rising, Up, pairs_at, rising_pairs, rising_unique, mem_place}
 
 module _ {ℓ} {A : Type ℓ} (by : A → ℕ) where
@@ -94,12 +94,12 @@ module _ {ℓ κ} {A : Type ℓ} {B : Type κ} (by : B → ℕ) (f : A → B) wh
   module _ (l : List A) (a : A) (b : B) where
     pub sorted_back : (k : ℕ) → k < length (sort by (map f l)) → (i : ℕ) × (i < length l) × (f (get_or l i a) ≡ get_or (sort by (map f l)) k b)
     sorted_back k h =
-        let r = (sort-map-mem l).0 (get_d_mem (sort by (map f l)) k b h) in
+        let r = (sort-map-mem l).0 (get_or-mem (sort by (map f l)) k b h) in
         let p = mem_place r.1 in
         (p.0, p.1, ap f (p.2 a) ∙ r.2)
 
     pub sorted_there : (i : ℕ) → i < length l → (k : ℕ) × (k < length (sort by (map f l))) × (f (get_or l i a) ≡ get_or (sort by (map f l)) k b)
-    sorted_there i h = let p = mem_place ((sort-map-mem l).1 (get_or l i a, get_d_mem l i a h, refl)) in (p.0, p.1, sym (p.2 b))
+    sorted_there i h = let p = mem_place ((sort-map-mem l).1 (get_or l i a, get_or-mem l i a h, refl)) in (p.0, p.1, sym (p.2 b))
 
   -- where the list rose and two of its entries get one number only if they had one
   module _ (old : A → ℕ) where

@@ -11,7 +11,7 @@ use lib.Dec.{eqb}
 use lib.ListN.{get_or, set, take, drop, length-set}
 use lib.Seq.{take-suc, drop-cons, take-suc-set, take-set-lt, drop-set-lt, take_all, length-take-le, get_or-take}
 use Rattle.std.specs.Prelude.{if◌then◌else◌}
-use Rattle.sheet.proofs.Listed.{get_d_mem}
+use Rattle.sheet.proofs.Listed.{get_or-mem}
 use Rattle.model.specs.Change.{Change}
 use Rattle.pending.specs.declared.Scan.{Scan}
 use Rattle.pending.specs.Flat.{places, unpacked, flat_due, flat_rest}
@@ -89,7 +89,7 @@ module _ {start : List ℕ} {t : ℕ} {taken : List Change} {store : List ℕ} {
         record {
           position = omega arith;
           value = omega arith;
-          due = Memᴰ.cast (ap (λ d. record { due = d; position = (unpacked here).position; value = (unpacked here).value }) (sym e)) (due_mem t here (Memᴰ.cast (cons_head ahead) (get_d_mem start at 0 (omega arith))) e);
+          due = Memᴰ.cast (ap (λ d. record { due = d; position = (unpacked here).position; value = (unpacked here).value }) (sym e)) (due_mem t here (Memᴰ.cast (cons_head ahead) (get_or-mem start at 0 (omega arith))) e);
           nearer = omega arith;
           taking =
               record {

@@ -14,7 +14,7 @@ use Rattle.sheet.specs.Limits.{most_nodes}
 use Rattle.sheet.specs.Refusal.{first, start_rows}
 use Rattle.sheet.specs.Wiring.{is_driven}
 use Rattle.sheet.proofs.Each.{each_same}
-use Rattle.sheet.proofs.Listed.{length-listed, get_d_listed}
+use Rattle.sheet.proofs.Listed.{length-listed, get_or-listed}
 use Rattle.read_modules.specs.Record.{byte_rows}
 
 module _ (e : Edition) (s : List ℕ) {count : ℕ} (is : count ≡ nodes_counted s) (few : count ≤ 256)
@@ -22,7 +22,7 @@ module _ (e : Edition) (s : List ℕ) {count : ℕ} (is : count ≡ nodes_counte
   byte_held : (v : ℕ) → v < nodes_counted s → get_or nodes v 0 ≡ node_at s v
   byte_held v h =
       let l = listed (nodes_counted s) (node_at s) in
-      rw held (get_or-append l (replicate (256 - length l) 0) 0 v (rw (length-listed (nodes_counted s) (node_at s)) h) ∙ get_d_listed (nodes_counted s) (node_at s) v 0 h)
+      rw held (get_or-append l (replicate (256 - length l) 0) 0 v (rw (length-listed (nodes_counted s) (node_at s)) h) ∙ get_or-listed (nodes_counted s) (node_at s) v 0 h)
 
   pub start_rows_lem : first (each count (λ v. byte_rows v (get_or nodes v 0) (get_or driven v false))) ≡ first (each (nodes_counted s) (start_rows e s))
   start_rows_lem =

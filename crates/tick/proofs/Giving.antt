@@ -16,7 +16,7 @@ use Rattle.sheet.specs.declared.Event.{Event}
 use Rattle.sheet.specs.Enumerate.{chosen, listed}
 use Rattle.sheet.proofs.Chosen.{chosen_same, chosen_one}
 use Rattle.sheet.proofs.Each.{each_same}
-use Rattle.sheet.proofs.Listed.{length-listed, get_d_listed, listed-is}
+use Rattle.sheet.proofs.Listed.{length-listed, get_or-listed, listed-is}
 use Rattle.model.specs.Drive.{event_in, events_below, driven, drive_tick}
 use Rattle.model.specs.Passes.{module_in, present_on, give}
 use Rattle.tick.specs.Tables.{modules_in}
@@ -32,7 +32,7 @@ set-listed n f g k x h here others =
   where
     at : (i : ℕ) → i < n → Dec (i ≡ k) → g i ≡ get_or (set (listed n f) k x) i 0
     at i l (yes e) = rw e (here ∙ sym (get_or-set_same (listed n f) k x 0 (omega (arith, length-listed n f))))
-    at i l (no d) = others i l d ∙ sym (get_or-set_other (listed n f) k i x 0 d ∙ get_d_listed n f i 0 l)
+    at i l (no d) = others i l d ∙ sym (get_or-set_other (listed n f) k i x 0 d ∙ get_or-listed n f i 0 l)
 
 module _ (table : List ℕ) (n : ℕ) where
   -- as the model has it
@@ -84,7 +84,7 @@ module _ (table : List ℕ) (n : ℕ) where
           (sym (
           ap joined (chosen_one n (λ j. eqb (driven_at table j) v) (λ j. get_or (given_in table n (set values v value) kept) j 0) k h (eq-eqb v v refl) (λ j l e. flags k h alone j l (eqb-true (driven_at table j) v e)))
           ∙ neutral_right (get_or (given_in table n (set values v value) kept) k 0)
-          ∙ get_d_listed n (given_at table (set values v value) kept) k 0 h
+          ∙ get_or-listed n (given_at table (set values v value) kept) k 0 h
           ∙ rw (eq-eqb (flag_at table k) 0 alone) (get_or-set_same values v value 0 node)
           ))
 
@@ -102,7 +102,7 @@ module _ (table : List ℕ) (n : ℕ) where
       shared_present : (values' kept' : List ℕ) → present_in table n (given_in table n values' kept') v ≡ present_in table n kept' v
       shared_present values' kept' =
           chosen_same n _ _ _ _ (λ j l. refl)
-          (λ j l e. get_d_listed n (given_at table values' kept') j 0 l ∙ ap (λ b. if b then get_or values' (driven_at table j) 0 else get_or kept' j 0) (ne_eqb (flag_at table j) 0 (flagged_too j l (eqb-true (driven_at table j) v e))))
+          (λ j l e. get_or-listed n (given_at table values' kept') j 0 l ∙ ap (λ b. if b then get_or values' (driven_at table j) 0 else get_or kept' j 0) (ne_eqb (flag_at table j) 0 (flagged_too j l (eqb-true (driven_at table j) v e))))
 
       pub shared_gives : (x : ℕ) → x ≡ joined (present_in table n (set kept k value) v)
           → (delays : List ℕ) → settled_in table n (set values v x) (set kept k value) ≡ give (modules_in table delays n) k value (settled_in table n values kept)
@@ -142,14 +142,14 @@ module _ (table : List ℕ) (n : ℕ) {values kept : List ℕ} (v : Levels value
   given_levels k = by (dec_lt k n)
     where
       by : Dec (k < n) → get_or (given_in table n values kept) k 0 < 4
-      by (yes h) = rw (get_d_listed n (given_at table values kept) k 0 h) (value_at k)
+      by (yes h) = rw (get_or-listed n (given_at table values kept) k 0 h) (value_at k)
       by (no d) =
           let past : length (given_in table n values kept) ≤ k = omega (arith, length-listed n (given_at table values kept)) in
           rw (get_or-eq_default (given_in table n values kept) 0 past) (omega arith)
 
 -- before tick 0 the values of the outputs are given
 pub first-given : (table : List ℕ) (n : ℕ) (values kept : List ℕ) (k : ℕ) → k < n → get_or kept k 0 ≡ get_or values (driven_at table k) 0 → get_or (given_in table n values kept) k 0 ≡ get_or values (driven_at table k) 0
-first-given table n values kept k h e = get_d_listed n (given_at table values kept) k 0 h ∙ by (eqb (flag_at table k) 0)
+first-given table n values kept k h e = get_or-listed n (given_at table values kept) k 0 h ∙ by (eqb (flag_at table k) 0)
   where
     by : (b : Bool) → (if b then get_or values (driven_at table k) 0 else get_or kept k 0) ≡ get_or values (driven_at table k) 0
     by true = refl

@@ -12,7 +12,7 @@ use Rattle.sheet.specs.declared.Event.{Event}
 use Rattle.sheet.specs.Sheet.{no_module, no_event}
 use Rattle.sheet.specs.Enumerate.{each, listed}
 use Rattle.sheet.proofs.Each.{each_same}
-use Rattle.sheet.proofs.Listed.{length-listed, get_d_listed}
+use Rattle.sheet.proofs.Listed.{length-listed, get_or-listed}
 use Rattle.model.specs.Drive.{event_in}
 use Rattle.model.specs.Passes.{module_in}
 use Rattle.model.specs.Starts.{StartsOf}
@@ -26,7 +26,7 @@ module _ (table delays : List ℕ) (n : ℕ) where
 
   pub module_at : (k : ℕ) → k < n → module_in (modules_in table delays n) k ≡ module_at_table table delays k
   unfolding modules_in
-  module_at k h = get_d_listed n (module_at_table table delays) k no_module h
+  module_at k h = get_or-listed n (module_at_table table delays) k no_module h
 
   pub known_in : AllKnown (modules_in table delays n) → KnownIn table n
   known_in all k h = rw (module_at k h) at (all k (rw length_modules h))
@@ -46,7 +46,7 @@ module _ (ticks nodes levels : List ℕ) (n : ℕ) where
 
   pub event_at : (e : ℕ) → e < n → event_in (drive_in ticks nodes levels n) e ≡ event_at_table ticks nodes levels e
   unfolding drive_in
-  event_at e h = get_d_listed n (event_at_table ticks nodes levels) e no_event h
+  event_at e h = get_or-listed n (event_at_table ticks nodes levels) e no_event h
 
 -- what is the same below k, and one more
 listed_more : {A : Type 0} (f g : ℕ → A) (k : ℕ) (a : A) → ((j : ℕ) → j < k → g j ≡ f j) → g k ≡ a → listed (k + 1) g ≡ listed k f ++ a ∷ []

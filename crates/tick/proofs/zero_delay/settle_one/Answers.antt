@@ -1,6 +1,6 @@
 -- `tick::zero_delay::settle_one` meets its contract: what the module comes to, holding what it gave last, is given. Assumes nothing.
 use mathlib.Core.Path.{sym, ◌∙◌}
-use Rattle.sheet.proofs.Listed.{get_d_listed}
+use Rattle.sheet.proofs.Listed.{get_or-listed}
 use Rattle.tick.specs.Tally.{given_at, given_in}
 use Rattle.tick.proofs.zero_delay.settle_one.Goals as goal
 
@@ -18,7 +18,7 @@ returns c =
     let g = c.give.ensures in (
       λ delays n h tallied.
           let r = g.0 delays n h tallied in
-          (rw (r.0, e.0 delays n h (given_in a.table.now n a.values.now a.kept.now) (get_d_listed n (given_at a.table.now a.values.now a.kept.now) a.k 0 h ∙ sym held)), r.1),
+          (rw (r.0, e.0 delays n h (given_in a.table.now n a.values.now a.kept.now) (get_or-listed n (given_at a.table.now a.values.now a.kept.now) a.k 0 h ∙ sym held)), r.1),
       g.1,
       g.2,
     )
