@@ -11,7 +11,7 @@ const LARGE: usize = 16 << 20;
 
 /// More than it takes to read such a file, on a busy machine too. Work in the square of its length would take
 /// hours.
-const MOST: Duration = Duration::from_secs(10);
+const MOST: Duration = Duration::from_secs(60);
 
 /// So many repetitions that the file is large.
 fn large(part: &str) -> String {
