@@ -2,7 +2,7 @@
 """Brings the definitions' and lemmas' own names to one spelling: snake case, types in camel case, a dash only where it joins the names
 of two definitions or follows a type's.
 
-usage: tools/respell.py [--list] [FOLDER ..]     over crates/ of the working folder, in the order: collect, check, write
+usage: tools/respell.py [--list]     over crates/ of the working folder
 
 Names are those declared in specs/ and in the lemma files of proofs/. A name that would fall together with another one that its files
 already have gets _lem. Functions of src/, exported names, strings, inputs and outputs are not touched: none of them has a dash or a hump.
