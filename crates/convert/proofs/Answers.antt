@@ -4,22 +4,23 @@ use borrow.Author.Tests.{lt-ltb, le-ltb, ltb-false}
 use mathlib.Core.Bool.{false}
 use mathlib.Core.List.Memᴰ
 use mathlib.Core.List.{List}
-use mathlib.Core.Path.{◌≡◌, refl, sym, ap, ◌∙◌, subst}
+use mathlib.Core.Path.{◌≡◌, refl, sym, ◌∙◌}
 use Prim.Native.Nat.{ℕ, ◌<◌, ◌≤◌}
-use Rattle.sheet.specs.declared.Answer.{Answer}
-use Rattle.sheet.specs.declared.Answer.TheVariants.{Refused}
+use Rattle.sheet.specs.declared.refusal.Refusal.{Refusal}
 use Rattle.sheet.specs.declared.Edition.{Edition}
 use Rattle.sheet.specs.Enumerate.{each}
 use Rattle.sheet.specs.Layout.{modules_counted, module_place, module_at, sheet_of}
-use Rattle.sheet.specs.Outcome.{finished, refused, outcome_of}
+use Rattle.sheet.specs.Outcome.{finished, refused}
 use Rattle.sheet.specs.Refusal.{Row, rows, first, checked_by, checked}
+use Rattle.sheet.specs.Told.{as_refused}
+use Rattle.sheet.proofs.Told.{is_refused}
 use Rattle.sheet.proofs.Each.{each-mem}
 use Rattle.sheet.proofs.Parts.{counts_modules, module_of_lem}
 use Rattle.sheet.proofs.Rows.{all_nil, ◌and◌, all_each, first_clear, passed_append, refused_append, both_passed, refused_each}
 use Rattle.format.specs.Accepted.{HasKinds}
 use Rattle.format.specs.Made.{sheet_made}
-use Rattle.format.proofs.Made.{refused_before}
 use Rattle.convert.specs.Converted.{converted}
+use Rattle.convert.proofs.Making.{not_begun}
 use Rattle.convert.specs.Conversion.{kind_not_in_first, kind_rows, conversion_rows, Converts}
 
 abbrev NotMet : Row → Type 0
@@ -63,8 +64,6 @@ module _ (from to : Edition) (s : List ℕ) where
             rw (module_of_lem from s m l) (ltb-false to.greatest (module_at from s m).kind (clear _ ((each-mem (modules_counted s) (kind_rows from to s)).1 (m, l, Memᴰ.head refl)))),
       )
 
-  -- an answer of the check that is a refusal is the conversion's
-  pub not_accepted : (output : List ℕ) (a : Answer) → outcome_of a ≡ checked from s → {n p k : ℕ} → a ≡ Refused n p k → Converts from to s output (outcome_of a) output
-  not_accepted output a told {n} {p} {k} e =
-      let refusal = ap outcome_of e in
-      subst (λ o. Converts from to s output o output) (sym refusal) (refused_before (sheet_made (converted from to s)) output (own_refused (sym told ∙ refusal)))
+  -- a refusal of the check is the conversion's
+  pub not_accepted : (output : List ℕ) (r : Refusal) → checked from s ≡ as_refused r → Converts from to s output (as_refused r) output
+  not_accepted output r told = let h = is_refused r in not_begun (sheet_made (converted from to s)) output r (h.3 ∙ sym (own_refused (told ∙ h.3)))

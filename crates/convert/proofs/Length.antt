@@ -13,14 +13,14 @@ use Rattle.format.specs.Accepted.{Known, the_first, the_second, AcceptedIn}
 use Rattle.format.proofs.Accepted.{few_bytes, conversely}
 use Rattle.format.proofs.Theorems.{longest}
 use Rattle.convert.specs.Converted.{part, converted_record, records_place, converted, needed}
-use Rattle.convert.proofs.Record.{part_length, delay_ends, inputs_within}
+use Rattle.convert.proofs.Record.{part_length, delay_ends, least_size}
 use Rattle.convert.proofs.Written.{record_within}
 
 record_length : {from to : Edition} → Known from → Known to → (s : List ℕ) (p : ℕ) → p + from.size ≤ length s → length (converted_record from to s p) ≡ to.size
 record_length {from} known known' s p h = sized known'
   where
     fields : length (part s p 5) ≡ 5
-    fields = part_length s p 5 (omega (arith, inputs_within known))
+    fields = part_length s p 5 (omega (arith, least_size known))
 
     delay : length (part s (delay_place from p) 2) ≡ 2
     delay = part_length s (delay_place from p) 2 (omega (arith, delay_ends known p))

@@ -3,5 +3,6 @@ pub mod Computed
 pub mod Record
 pub mod Written
 pub mod Length
+pub mod Making
 pub mod Answers
 pub mod Theorems

@@ -32,9 +32,9 @@ pub delay_ends : {E : Edition} → Known E → (p : ℕ) → delay_place E p + 2
 delay_ends the_first p = omega arith
 delay_ends the_second p = omega arith
 
-pub inputs_within : {E : Edition} → Known E → 5 ≤ E.size
-inputs_within the_first = omega arith
-inputs_within the_second = omega arith
+pub least_size : {E : Edition} → Known E → 7 ≤ E.size
+least_size the_first = omega arith
+least_size the_second = omega arith
 
 module _ (from : Edition) (s : List ℕ) (bytes : Bytes s) (p : ℕ) (fields : p + 5 ≤ length s) (delay : delay_place from p + 2 ≤ length s) where
   record_written : {to : Edition} → Known to → module_bytes to (module_record from s p) ≡ converted_record from to s p
@@ -45,4 +45,4 @@ module _ (from : Edition) (s : List ℕ) (bytes : Bytes s) (p : ℕ) (fields : p
 pub converted_record_lem : {from to : Edition} → Known from → Known to → (s : List ℕ) → Bytes s → (p : ℕ) → p + from.size ≤ length s
     → module_bytes to (module_record from s p) ≡ converted_record from to s p
 converted_record_lem {from} known known' s bytes p h =
-    record_written from s bytes p (omega (arith, inputs_within known)) (omega (arith, delay_ends known p)) known'
+    record_written from s bytes p (omega (arith, least_size known)) (omega (arith, delay_ends known p)) known'

@@ -1,11 +1,10 @@
 -- What the steps of drawing and writing come to: three draws in a row are an event, a tick is two numbers of two bytes, and the parts of a drive's section.
 -- Assumes nothing.
-use Rattle.std.proofs.Common.{◌≡◌, ℕ, suc, ◌+◌, ◌*◌, ◌/◌, ◌%◌, List, ◌++◌, length, get_or, sym, ap, ◌∙◌, ap₂, append_assoc, arith}
-use native.Mathlib.Nat.{mul-add-mod_self_right}
+use Rattle.std.proofs.Common.{◌≡◌, ℕ, suc, ◌+◌, ◌%◌, List, ◌++◌, length, get_or, sym, ap, ◌∙◌, ap₂, add-one, append_assoc, arith}
 use Rattle.sheet.specs.declared.Event.{Event}
-use Rattle.sheet.specs.Enumerate.{listed}
-use Rattle.format.specs.Encode.{word_bytes, long_bytes, event_bytes, all_bytes}
-use Rattle.format.proofs.AllBytes.{all_bytes-append}
+use Rattle.sheet.specs.Enumerate.{each, listed}
+use Rattle.format.specs.Encode.{word_bytes, event_bytes, all_bytes}
+use Rattle.format.proofs.AllBytes.{all_bytes-append, each_bytes}
 use Rattle.draw.specs.Draw.{advanced, result_of, state_after}
 use Rattle.draw.specs.Drive.{first_event, tick_draw, input_draw, value_draw, tick_before, later_event, drawn_drive, drive_bytes}
 use Rattle.draw.proofs.Drive.{drawn_length}
@@ -37,24 +36,23 @@ module _ (inputs : List ℕ) (seed k : ℕ) {state tick : ℕ} (from : state ≡
   unfolding tick_before
   tick_next = ap₂ (λ t s. t + (1 + result_of s % 64)) so_far one
 
-  pub event_next : {t v x : ℕ} → t ≡ tick + (1 + result_of (advanced state) % 64) → v ≡ get_or inputs (result_of (advanced (advanced state)) % length inputs) 0
-      → x ≡ result_of (advanced (advanced (advanced state))) % 2 → record { tick = t; node = v; value = x } ≡ later_event inputs seed k
-  event_next at of to =
+  pub event_next : ◌≡◌ {A = Event} (record {
+    tick = tick + (1 + result_of (advanced state) % 64);
+    node = get_or inputs (result_of (advanced (advanced state)) % length inputs) 0;
+    value = result_of (advanced (advanced (advanced state))) % 2;
+  }) (later_event inputs seed k)
+  event_next =
       λ i.
       record {
-        tick = (at ∙ tick_next) i;
-        node = (of ∙ ap (λ s. get_or inputs (result_of s % length inputs) 0) two) i;
-        value = (to ∙ ap (λ s. result_of s % 2) three) i;
+        tick = tick_next i;
+        node = ap (λ s. get_or inputs (result_of s % length inputs) 0) two i;
+        value = ap (λ s. result_of s % 2) three i;
       }
 
-pub long_as_words : (n : ℕ) → word_bytes (n % 65536) ++ word_bytes (n / 65536) ≡ long_bytes n
-long_as_words n =
-    let a : n % 65536 % 256 ≡ n % 256 = omega arith in
-    let quotient : n / 256 ≡ n / 65536 * 256 + n % 65536 / 256 = omega arith in
-    let b : n % 65536 / 256 % 256 ≡ n / 256 % 256 = sym (ap (λ q. q % 256) quotient ∙ mul-add-mod_self_right (n / 65536) 256 (n % 65536 / 256)) in
-    let upper : n / 65536 / 256 ≡ n / 16777216 = omega arith in
-    let c : n / 65536 / 256 % 256 ≡ n / 16777216 % 256 = ap (λ q. q % 256) upper in
-    rw (a, b, c)
+-- one record more
+pub one_more : {A : Type 0} (bytes : A → List ℕ) (n : ℕ) (f : ℕ → A) → all_bytes bytes (listed (n + 1) f) ≡ all_bytes bytes (listed n f) ++ bytes (f n)
+unfolding each
+one_more bytes n f = rw (add-one n, ← each_bytes bytes (suc n) f, ← each_bytes bytes n f)
 
 pub section_parts : (inputs : List ℕ) (seed n : ℕ)
     → word_bytes (length inputs + n) ++ all_bytes event_bytes (listed (length inputs) (first_event inputs seed)) ++ all_bytes event_bytes (listed n (later_event inputs seed))

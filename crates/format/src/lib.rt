@@ -3,21 +3,18 @@
 #![tactic(auto)]
 
 ghost use Rattle.std.specs.Prelude.{List, ◌≡◌, ℕ, ◌<◌, length};
-ghost use Rattle.sheet.specs.Outcome.{outcome_of};
+ghost use Rattle.sheet.specs.Told.{answer_in};
 ghost use Rattle.format.specs.Made.{written_answer, sheet_made};
 
-use sheet::Answer;
-
-// The refusal of an output that is shorter than the sheet.
-const OUTPUT_SHORT: u32 = 23;
+use sheet::Refusal;
 
 // The answer to writing a sheet of so many bytes to an output of so many.
-pub fn length_answer(needed: usize, bytes: usize) -> Answer
+pub fn length_answer(needed: usize, bytes: usize) -> Result<u32, Refusal>
     requires { needed < 4294967296 }
-    ensures { (sheet : List ℕ) → length sheet ≡ needed → outcome_of result ≡ written_answer (sheet_made sheet) bytes }
+    ensures { (sheet : List ℕ) → length sheet ≡ needed → answer_in result ≡ written_answer (sheet_made sheet) bytes }
 {
     if bytes < needed {
-        return Answer::Refused(OUTPUT_SHORT, needed as u32, 0);
+        return Err(Refusal::OutputShort(needed as u32));
     }
-    Answer::Ran(needed as u32)
+    Ok(needed as u32)
 }

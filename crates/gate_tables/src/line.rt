@@ -1,63 +1,49 @@
 // An entry's line, as it stands in the source: its value, and in a comment the gate and its inputs' values.
 use crate::rule::gate;
-use lent::{put, put_all};
+use lent::Writer;
 use level::Level;
 
-fn put_value(text: &mut [u8], at: usize, value: u8) -> usize {
+fn value_name(value: u8) -> &'static [u8] {
     match value {
-        Level::LOW => put_all(text, at, b"LOW"),
-        Level::HIGH => put_all(text, at, b"HIGH"),
-        Level::UNKNOWN => put_all(text, at, b"UNKNOWN"),
-        _ => put_all(text, at, b"NONE"),
+        Level::LOW => b"LOW",
+        Level::HIGH => b"HIGH",
+        Level::UNKNOWN => b"UNKNOWN",
+        _ => b"NONE",
     }
 }
 
-fn put_name(text: &mut [u8], at: usize, kind: u8) -> usize {
+// A kind is a byte, as `gate` has it.
+fn gate_name(kind: u8) -> &'static [u8] {
     match kind {
-        1 => put_all(text, at, b"buffer"),
-        2 => put_all(text, at, b"inverter"),
-        3 => put_all(text, at, b"AND"),
-        4 => put_all(text, at, b"OR"),
-        5 => put_all(text, at, b"XOR"),
-        6 => put_all(text, at, b"NAND"),
-        7 => put_all(text, at, b"NOR"),
-        8 => put_all(text, at, b"clocked inverter"),
-        10 => put_all(text, at, b"AND"),
-        11 => put_all(text, at, b"OR"),
-        12 => put_all(text, at, b"XOR"),
-        13 => put_all(text, at, b"NAND"),
-        14 => put_all(text, at, b"NOR"),
-        _ => put_all(text, at, b"multiplexer"),
+        1 => b"buffer",
+        2 => b"inverter",
+        3 | 10 => b"AND",
+        4 | 11 => b"OR",
+        5 | 12 => b"XOR",
+        6 | 13 => b"NAND",
+        7 | 14 => b"NOR",
+        8 => b"clocked inverter",
+        _ => b"multiplexer",
     }
-}
-
-// Puts what stands before an input: a comma, but not before the first.
-fn put_comma(text: &mut [u8], at: usize, i: usize) -> usize {
-    if 0 < i {
-        return put_all(text, at, b", ");
-    }
-    at
 }
 
 // Puts the inputs' values, divided by commas.
-fn put_inputs(text: &mut [u8], at: usize, inputs: &[u8]) -> usize {
-    let mut to = at;
-    let mut i: usize = 0;
-    while i < inputs.len() {
-        let from = put_comma(text, to, i);
-        to = put(text, from, Level::printed(inputs[i]));
-        i += 1;
+fn put_inputs(out: &mut Writer, inputs: &[u8]) {
+    for (i, value) in inputs.iter().enumerate() {
+        if i > 0 {
+            out.put_all(b", ");
+        }
+        out.put(Level::printed(*value));
     }
-    to
 }
 
 // Puts the line of a gate's entry.
-pub(crate) fn put_line(text: &mut [u8], at: usize, kind: u8, inputs: &[u8]) -> usize {
-    let value = put_all(text, at, b"    Level::");
-    let comment = put_value(text, value, gate(kind, inputs));
-    let name = put_all(text, comment, b", // ");
-    let open = put_name(text, name, kind);
-    let first = put(text, open, b'(');
-    let close = put_inputs(text, first, inputs);
-    put_all(text, close, b")\n")
+pub(crate) fn put_line(out: &mut Writer, kind: u8, inputs: &[u8]) {
+    out.put_all(b"    Level::");
+    out.put_all(value_name(gate(kind, inputs)));
+    out.put_all(b", // ");
+    out.put_all(gate_name(kind));
+    out.put(b'(');
+    put_inputs(out, inputs);
+    out.put_all(b")\n");
 }

@@ -7,10 +7,11 @@ mod rule;
 ghost use Rattle.std.specs.Prelude.{◌≤◌};
 
 use crate::line::put_line;
-use lent::put_all;
+use lent::Writer;
 use level::{LAST_KIND, MEMORY};
 
 // Room for the text: 488 lines of at most 50 bytes, and what stands before and after them. A longer one would be cut off.
+// It is an array, since there is no heap.
 const TEXT: usize = 26000;
 
 // The entries of a table, by how many inputs its kind has.
@@ -25,66 +26,45 @@ fn entries(inputs: usize) -> u8
 }
 
 // Puts what stands before the entries.
-fn put_head(text: &mut [u8], at: usize) -> usize {
-    let a = put_all(
-        text,
-        at,
+fn put_head(out: &mut Writer) {
+    out.put_all(
         b"// The gates' tables, kind after kind, as the program of crates/gate_tables prints this file.\n",
     );
-    let b = put_all(
-        text,
-        a,
+    out.put_all(
         b"// Kinds 1 and 2 have 4 entries each, by the input's value; kinds 3 to 8 have 16, by the first\n",
     );
-    let c = put_all(
-        text,
-        b,
+    out.put_all(
         b"// input's value and then the second's; kinds 10 to 15 have 64, by the third's after these.\n",
     );
-    let d = put_all(text, c, b"use crate::Level;\nuse crate::TABLE_ENTRIES;\n\n");
-    put_all(
-        text,
-        d,
-        b"pub(crate) const TABLES: [u8; TABLE_ENTRIES] = [\n",
-    )
+    out.put_all(b"use crate::Level;\nuse crate::TABLE_ENTRIES;\n\n");
+    out.put_all(b"pub(crate) const TABLES: [u8; TABLE_ENTRIES] = [\n");
 }
 
 // Puts the entries of a kind, the first input's value counting most.
-fn put_entries(text: &mut [u8], at: usize, kind: u8) -> usize {
+fn put_entries(out: &mut Writer, kind: u8) {
     let n = level::inputs(kind) as usize;
-    let end = entries(n);
-    let mut to = at;
-    let mut place: u8 = 0;
-    while place < end {
+    for place in 0..entries(n) {
         let inputs = [place / 16 % 4, place / 4 % 4, place % 4];
-        to = put_line(text, to, kind, &inputs[3 - n..]);
-        place += 1;
+        put_line(out, kind, &inputs[3 - n..]);
     }
-    to
 }
 
-// Puts the entries of a kind's table, if it has one.
-fn put_table(text: &mut [u8], at: usize, kind: u8) -> usize {
-    if kind == MEMORY {
-        return at;
+// Puts the whole text: the table of each kind that has one.
+fn put_tables(out: &mut Writer) {
+    put_head(out);
+    for kind in 1..=LAST_KIND {
+        if kind != MEMORY {
+            put_entries(out, kind);
+        }
     }
-    put_entries(text, at, kind)
-}
-
-// Puts the whole text. Answers the place after it.
-fn put_tables(text: &mut [u8]) -> usize {
-    let mut to = put_head(text, 0);
-    let mut kind: u8 = 1;
-    while kind <= LAST_KIND {
-        to = put_table(text, to, kind);
-        kind += 1;
-    }
-    put_all(text, to, b"];\n")
+    out.put_all(b"];\n");
 }
 
 fn main(rt: HostRuntime) {
     let mut text = [0u8; TEXT];
-    let n = put_tables(&mut text);
+    let mut out = Writer::new(&mut text);
+    put_tables(&mut out);
+    let n = out.at;
     if n <= TEXT {
         if rt.stdout().write_all(&text[..n]).is_err() {
             let _ = eprintln!(rt; "gate_tables: standard output did not take the whole text");

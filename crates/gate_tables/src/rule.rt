@@ -1,6 +1,6 @@
 // The gates' rules, each worked out over the list of its inputs' values as its definition says it.
-ghost use Rattle.std.specs.Prelude.{not, ◌≡◌, eqb, take, if◌then◌else◌};
-ghost use Rattle.level.specs.Level.{high};
+ghost use Rattle.std.specs.Prelude.{◌≡◌, map, take, if◌then◌else◌};
+ghost use Rattle.level.specs.Level.{unknown};
 ghost use Rattle.level.specs.Gate.{counted, input_at, some, every, odd_ones, inverse, common, buffer, inverter, and, or, xor};
 ghost use Rattle.level.specs.Gate.{nand, nor, clocked_inverter, multiplexer};
 ghost use Rattle.level.specs.Rule.{comes_to};
@@ -19,59 +19,36 @@ fn counted(a: u8) -> u8
 fn input_at(inputs: &[u8], i: usize) -> u8
     ensures { result ≡ input_at inputs.now i }
 {
-    if i < inputs.len() {
-        inputs[i]
-    } else {
-        Level::UNKNOWN
-    }
+    inputs.get(i).copied().unwrap_or(Level::UNKNOWN)
 }
 
 // Whether one of the inputs has the value.
 fn some(v: u8, inputs: &[u8]) -> bool
     ensures { result ≡ some v inputs.now }
 {
-    let mut i: usize = 0;
-    while i < inputs.len() {
-        if inputs[i] == v {
-            return true;
-        }
-        i += 1;
-    }
-    false
+    inputs.iter().any(|a| *a == v)
 }
 
-// Whether every one has.
+// Whether one of the inputs counts as X.
+#[tactic(auto, using(crate::proofs::Passed::counted_unknown))]
+fn some_unknown(inputs: &[u8]) -> bool
+    ensures { result ≡ some unknown (map counted inputs.now) }
+{
+    some(Level::UNKNOWN, inputs) || some(Level::NONE, inputs)
+}
+
+// Whether every one has a value.
 fn every(v: u8, inputs: &[u8]) -> bool
     ensures { result ≡ every v inputs.now }
 {
-    let mut i: usize = 0;
-    while i < inputs.len() {
-        if inputs[i] != v {
-            return false;
-        }
-        i += 1;
-    }
-    true
-}
-
-// Whether a count is odd that was odd or not before one more input, which counts if it is 1.
-fn odd_with(odd: bool, a: u8) -> bool
-    ensures { result ≡ (if eqb a high then not odd else odd) }
-{
-    if a == Level::HIGH { !odd } else { odd }
+    inputs.iter().all(|a| *a == v)
 }
 
 // Whether an odd count of the inputs are 1.
 fn odd_ones(inputs: &[u8]) -> bool
     ensures { result ≡ odd_ones inputs.now }
 {
-    let mut odd = false;
-    let mut i: usize = 0;
-    while i < inputs.len() {
-        odd = odd_with(odd, inputs[i]);
-        i += 1;
-    }
-    odd
+    inputs.iter().filter(|a| **a == Level::HIGH).count() % 2 == 1
 }
 
 // 0 gives 1, 1 gives 0, X gives X.
@@ -87,6 +64,7 @@ fn inverse(a: u8) -> u8
     }
 }
 
+// Each gate stands under its own name, as in the definitions: one function for two of them would take the other function.
 fn buffer(inputs: &[u8]) -> u8
     ensures { result ≡ buffer inputs.now }
 {
@@ -99,35 +77,36 @@ fn inverter(inputs: &[u8]) -> u8
     inverse(input_at(inputs, 0))
 }
 
-fn and(inputs: &[u8]) -> u8
-    ensures { result ≡ and inputs.now }
+// The first value if one input has it, the second if every one has, and X else.
+fn decided(one: u8, all: u8, inputs: &[u8]) -> u8
+    ensures { result ≡ (if some one inputs.now then one else if every all inputs.now then all else unknown) }
 {
-    if some(Level::LOW, inputs) {
-        Level::LOW
-    } else if every(Level::HIGH, inputs) {
-        Level::HIGH
+    if some(one, inputs) {
+        one
+    } else if every(all, inputs) {
+        all
     } else {
         Level::UNKNOWN
     }
 }
 
+fn and(inputs: &[u8]) -> u8
+    ensures { result ≡ and inputs.now }
+{
+    decided(Level::LOW, Level::HIGH, inputs)
+}
+
 fn or(inputs: &[u8]) -> u8
     ensures { result ≡ or inputs.now }
 {
-    if some(Level::HIGH, inputs) {
-        Level::HIGH
-    } else if every(Level::LOW, inputs) {
-        Level::LOW
-    } else {
-        Level::UNKNOWN
-    }
+    decided(Level::HIGH, Level::LOW, inputs)
 }
 
 // X or Z among the inputs gives X.
 fn xor(inputs: &[u8]) -> u8
     ensures { result ≡ xor inputs.now }
 {
-    if some(Level::UNKNOWN, inputs) | some(Level::NONE, inputs) {
+    if some_unknown(inputs) {
         Level::UNKNOWN
     } else if odd_ones(inputs) {
         Level::HIGH
@@ -165,13 +144,10 @@ fn clocked_inverter(inputs: &[u8]) -> u8
 fn first_two(inputs: &[u8]) -> &[u8]
     ensures { result.now ≡ take 2 inputs.now }
 {
-    if inputs.len() < 2 {
-        return inputs;
-    }
-    &inputs[..2]
+    &inputs[..inputs.len().min(2)]
 }
 
-// The value that all have, where all are 0 or all are 1, and X else.
+// The value that all have, where all are 0 or all are 1, and X else. Here no one input decides, so this is not `decided`.
 fn common(inputs: &[u8]) -> u8
     ensures { result ≡ common inputs.now }
 {
@@ -197,26 +173,21 @@ fn multiplexer(inputs: &[u8]) -> u8
     }
 }
 
-// What a kind's rule comes to at its inputs' values, with parameter 0 and held value 0.
+// What a kind's rule comes to at its inputs' values, with parameter 0 and held value 0. Kinds are document 01's numbers, and its tables are
+// read at them.
 pub(crate) fn gate(kind: u8, inputs: &[u8]) -> u8
     ensures { result ≡ comes_to (rule_of kind 0) inputs.now 0 }
 {
     match kind {
-        0 => Level::LOW,
+        0 | 9 => Level::LOW,
         1 => buffer(inputs),
         2 => inverter(inputs),
-        3 => and(inputs),
-        4 => or(inputs),
-        5 => xor(inputs),
-        6 => nand(inputs),
-        7 => nor(inputs),
+        3 | 10 => and(inputs),
+        4 | 11 => or(inputs),
+        5 | 12 => xor(inputs),
+        6 | 13 => nand(inputs),
+        7 | 14 => nor(inputs),
         8 => clocked_inverter(inputs),
-        9 => Level::LOW,
-        10 => and(inputs),
-        11 => or(inputs),
-        12 => xor(inputs),
-        13 => nand(inputs),
-        14 => nor(inputs),
         15 => multiplexer(inputs),
         _ => Level::UNKNOWN,
     }

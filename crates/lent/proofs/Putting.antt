@@ -1,11 +1,12 @@
 -- A text that bytes are printed into: nothing printed yet, a byte that fits, a byte that is cut off, and one step after another. Assumes nothing.
 use mathlib.Core.List.{List, [], ◌∷◌, ◌++◌, append_assoc, append-nil}
-use mathlib.Core.Path.{◌≡◌, sym, ap, ◌∙◌}
+use mathlib.Core.Path.{◌≡◌, refl, sym, ap, ◌∙◌}
 use Prim.Native.Nat.{ℕ, suc, ◌+◌, ◌<◌, ◌≤◌}
 use native.Mathlib.Omega.{arith}
-use lib.ListN.{length, take, drop, set, get_or, length-append, length-take, length-drop, take-append-drop, drop_of_length-le}
-use lib.Seq.{take-nil, take_all, drop-cons, set_at, take-append-le, length-take-le}
-use Rattle.lent.specs.Lent.{text_after, Printed, Prints}
+use lib.ListN.{length, take, drop, set, get_or, length-append, length-take, length-drop, take-append-drop}
+use lib.Seq.{take-nil, take_all, drop-cons, set_at, length-take-le}
+use Rattle.lent.specs.declared.Writer.{Writer}
+use Rattle.lent.specs.Lent.{text_after, Printed, Prints, Puts}
 
 pub none-printed : (text : List ℕ) → Printed text [] text 0
 none-printed text = record { place = omega arith; holds = rw (take-nil (length text)) }
@@ -44,19 +45,6 @@ module _ {start bytes text : List ℕ} {at : ℕ} (p : Printed start bytes text 
       after : text_after (bytes ++ b ∷ []) start ≡ bytes ++ b ∷ drop (suc (length bytes)) start
       after = rw (one_more, take_all (length start) (bytes ++ b ∷ []) (omega (arith, within, one_more)), append_assoc)
 
-  pub put_cut : (b : ℕ) → length text ≤ at → Printed start (bytes ++ b ∷ []) text at
-  put_cut b h =
-      record {
-        place = simp length-append (omega (arith, p.place, same_length));
-        holds = p.holds ∙ rw (drop_of_length-le start {i = length bytes} full, drop_of_length-le start {i = length (bytes ++ b ∷ [])} over, take-append-le (length start) bytes (b ∷ []) full);
-      }
-    where
-      full : length start ≤ length bytes
-      full = omega (arith, p.place, same_length)
-
-      over : length start ≤ length (bytes ++ b ∷ [])
-      over = simp length-append (omega (arith, full))
-
 -- bytes that fit are printed whole
 pub whole : {start bytes text : List ℕ} {at : ℕ} → Printed start bytes text at → length bytes ≤ length start → (at ≡ length bytes) × (text ≡ bytes ++ drop (length bytes) start)
 whole {start} {bytes} p fits = (p.place ∙ omega (arith, fits), p.holds ∙ rw (take_all (length start) bytes fits))
@@ -80,3 +68,14 @@ prints_none text at start bytes p = rw append-nil p
 
 pub prints_then : {xs ys t₀ t₁ t₂ : List ℕ} {a₀ a₁ a₂ : ℕ} → Prints xs t₀ a₀ t₁ a₁ → Prints ys t₁ a₁ t₂ a₂ → Prints (xs ++ ys) t₀ a₀ t₂ a₂
 prints_then {xs} {ys} f g start bytes p = rw (← append_assoc) (g start (bytes ++ xs) (f start bytes p))
+
+-- the same of a writer, whose text stays the one that was lent
+pub puts_none : (w : Writer) → Puts [] w w
+puts_none w = record { lent = refl; prints = prints_none w.text.now w.at }
+
+pub puts_then : {xs ys : List ℕ} {w₀ w₁ w₂ : Writer} → Puts xs w₀ w₁ → Puts ys w₁ w₂ → Puts (xs ++ ys) w₀ w₂
+puts_then f g = record { lent = g.lent ∙ f.lent; prints = prints_then f.prints g.prints }
+
+-- what a writer puts from a text's start is printed into that text
+pub from_start : {more : List ℕ} {w₀ w₁ : Writer} → w₀.at ≡ 0 → Puts more w₀ w₁ → Printed w₀.text.now more w₁.text.now w₁.at
+from_start {w₀ = w₀} start puts = puts.prints w₀.text.now [] (rw start (none-printed w₀.text.now))

@@ -1,42 +1,53 @@
 // A lent text: bytes and numbers, each put after what is printed so far.
 #![tactic(auto)]
 
-ghost use Rattle.std.specs.Prelude.{[], ◌∷◌};
+ghost use Rattle.std.specs.Prelude.{[], ◌∷◌, ◌≡◌};
 ghost use Rattle.lent.specs.Decimal.{decimal};
-ghost use Rattle.lent.specs.Lent.{Prints};
+ghost use Rattle.lent.specs.Lent.{Puts};
 
-// Puts a byte at a place of the text. Answers the place after it; a byte that does not fit is cut off.
-pub fn put(text: &mut [u8], at: usize, byte: u8) -> usize
-    ensures { Prints (byte ∷ []) text.old at text.new result }
-{
-    if at < text.len() {
-        text[at] = byte;
-        at + 1
-    } else {
-        at
-    }
+// A lent text, and the place of its next byte. A byte that does not fit is cut off.
+#[derive(Drop)]
+pub struct Writer<'a> {
+    pub text: &'a mut [u8],
+    pub at: usize,
 }
 
-// Puts all of the bytes.
-pub fn put_all(text: &mut [u8], at: usize, bytes: &[u8]) -> usize
-    ensures { Prints bytes.now text.old at text.new result }
-{
-    let mut to = at;
-    let mut i = 0;
-    while i < bytes.len() {
-        to = put(text, to, bytes[i]);
-        i += 1;
+impl<'a> Writer<'a> {
+    // A lent text, to be written from its start.
+    pub fn new(text: &'a mut [u8]) -> Writer<'a>
+        ensures lent { result.text.ghost_name ≡ text.entry.ghost_name }
+        ensures as_it_was { result.text.now ≡ text.old }
+        ensures start { result.at ≡ 0 }
+    {
+        Writer { text, at: 0 }
     }
-    to
-}
 
-// Puts a number in decimal: the digits of a tenth, and then the last digit.
-pub fn put_decimal(text: &mut [u8], at: usize, n: u32) -> usize
-    ensures { Prints (decimal n) text.old at text.new result }
-{
-    if n < 10 {
-        return put(text, at, 48 + n as u8);
+    // Puts a byte.
+    pub fn put(&mut self, byte: u8)
+        ensures { Puts (byte ∷ []) self.old self.new }
+    {
+        if self.at < self.text.len() {
+            self.text[self.at] = byte;
+            self.at += 1;
+        }
     }
-    let last = put_decimal(text, at, n / 10);
-    put(text, last, 48 + (n % 10) as u8)
+
+    // Puts all of the bytes, one after the other: a copy of them at once asks the C library for memmove, which the header does not name.
+    pub fn put_all(&mut self, bytes: &[u8])
+        ensures { Puts bytes.now self.old self.new }
+    {
+        for byte in bytes {
+            self.put(*byte);
+        }
+    }
+
+    // Puts a number in decimal: the digits of a tenth, if it has one, and then the last digit.
+    pub fn put_decimal(&mut self, n: u32)
+        ensures { Puts (decimal n) self.old self.new }
+    {
+        if n >= 10 {
+            self.put_decimal(n / 10);
+        }
+        self.put(b'0' + (n % 10) as u8);
+    }
 }

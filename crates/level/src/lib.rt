@@ -33,7 +33,8 @@ pub const START_OF_THREE: u16 = 104;
 
 pub const NO_TABLE: u16 = 488;
 
-// The start of each kind: where its table begins, after those of the kinds before it. Kinds 0 and 9 have none.
+// The start of each kind: where its table begins, after those of the kinds before it. Kinds 0 and 9 have none. Constant tables by kind and by
+// the inputs' values are document 01's form, and kinds stay numbers: `start`, `gate` and `inputs` promise an answer for every byte.
 const STARTS: [u16; 16] = [
     NO_TABLE, // constant
     0, // buffer
@@ -56,7 +57,8 @@ const STARTS: [u16; 16] = [
 // The weight of each value in a memory's set.
 const WEIGHTS: [u8; 4] = [1, 2, 4, 8];
 
-// The values and what is done with them; a value is a byte, 0 to 3.
+// The values and what is done with them; a value is a byte, 0 to 3. Constants and functions of a type, without a value of it, are document
+// 01's form.
 #[derive(Drop)]
 pub struct Level {}
 
@@ -69,7 +71,8 @@ impl Level {
 
     pub const NONE: u8 = 3;
 
-    // The byte that prints a value. Only the value's two low bits count.
+    // The byte that prints a value. Only the value's two low bits count. A value is a byte, and no enum with a Display: `printed` is promised for
+    // every byte.
     pub fn printed(value: u8) -> u8
         ensures { result ≡ printed (value % 4) }
     {
@@ -89,6 +92,7 @@ impl Level {
     }
 
     // All tables, for a caller that reads many entries: a function that names a constant array builds it anew at each call.
+    #[tactic(auto, unfolding(crate::specs::Table::tables))]
     pub fn tables() -> [u8; TABLE_ENTRIES]
         ensures { result ≡ tables }
     {
@@ -99,30 +103,20 @@ impl Level {
     pub fn start(kind: u8) -> u16
         ensures { result ≡ start_of kind }
     {
-        if kind <= LAST_KIND {
-            STARTS[kind as usize]
-        } else {
-            NO_TABLE
-        }
+        STARTS.get(kind as usize).copied().unwrap_or(NO_TABLE)
     }
 
     // What the drivers of a node come to together, by how many of them give 0, 1 and X; the others give Z.
     pub fn joined(zeros: u16, ones: u16, unknowns: u16) -> u8
         ensures { (result ≡ joined_counts zeros ones unknowns) × (result < 4) }
     {
-        if 0 < unknowns {
-            return Level::UNKNOWN;
+        match (zeros > 0, ones > 0, unknowns > 0) {
+            (_, _, true) => Level::UNKNOWN,
+            (true, true, _) => Level::UNKNOWN,
+            (true, false, _) => Level::LOW,
+            (false, true, _) => Level::HIGH,
+            (false, false, _) => Level::NONE,
         }
-        if 0 < zeros {
-            if 0 < ones {
-                return Level::UNKNOWN;
-            }
-            return Level::LOW;
-        }
-        if 0 < ones {
-            return Level::HIGH;
-        }
-        Level::NONE
     }
 
     // A constant, kind 0: its parameter, whatever the inputs and the value held.
@@ -146,9 +140,7 @@ impl Level {
                 + 16 * ((first % 4) as usize)
                 + 4 * ((second % 4) as usize)
                 + (third % 4) as usize]
-        } else if kind == CONSTANT {
-            Level::LOW
-        } else if kind == MEMORY {
+        } else if kind == CONSTANT || kind == MEMORY {
             Level::LOW
         } else {
             Level::UNKNOWN
@@ -163,9 +155,5 @@ const INPUTS: [u8; 16] = [0, 1, 1, 2, 2, 2, 2, 2, 2, 2, 3, 3, 3, 3, 3, 3];
 pub fn inputs(kind: u8) -> u8
     ensures { (parameter : ℕ) → result ≡ inputs_of (rule_of kind parameter) }
 {
-    if kind <= LAST_KIND {
-        INPUTS[kind as usize]
-    } else {
-        0
-    }
+    INPUTS.get(kind as usize).copied().unwrap_or(0)
 }

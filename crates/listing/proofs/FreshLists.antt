@@ -1,14 +1,15 @@
 -- The records of a tick and what is then shown, one watched node after the other. Assumes nothing.
-use borrow.Author.Tests.{eq-eqb, ne_eqb}
-use mathlib.Core.Bool.{Bool, true, false}
 use mathlib.Core.List.{List, [], ◌∷◌, ◌++◌, append-nil}
-use mathlib.Core.Path.{◌≡◌, refl, ap}
-use Prim.Native.Nat.{ℕ, suc, ◌<◌, ◌≤◌}
+use mathlib.Core.Path.{◌≡◌, refl, ap, ◌∙◌}
+use Prim.Native.Nat.{ℕ, suc, ◌+◌, ◌<◌, ◌≤◌}
+use mathlib.Core.Bool.{Bool, true, false}
 use native.Mathlib.Omega.{arith}
 use lib.Dec.{eqb}
-use lib.ListN.{length, get_or, take, drop, set, length-append, take-append-drop}
-use lib.Seq.{take-suc, take-take}
-use Rattle.std.specs.Prelude.{if◌then◌else◌}
+use lib.ListN.{length, get_or, take, set, length-append, length-set, take-append-drop}
+use Rattle.std.specs.Prelude.{if◌then◌else◌, cond, not, count_by}
+use Rattle.std.proofs.lemmas.Bool.{not-false, not-true}
+use Rattle.std.proofs.lemmas.List.{take_more}
+use Rattle.std.proofs.lemmas.List.Recursion.{is_count_by}
 use Rattle.network.specs.Listing.{Record}
 use Rattle.model.specs.Fresh.{fresh, show_all}
 
@@ -21,46 +22,65 @@ before_few : (b : Bool) (r : Record) (rs : List Record) (n : ℕ) → length rs 
 before_few true r rs n h = omega arith
 before_few false r rs n h = omega arith
 
+before_counted : (b : Bool) (r : Record) (rs : List Record) → length (if b then rs else r ∷ rs) ≡ cond (not b) (1 + length rs) (length rs)
+before_counted true r rs = refl
+before_counted false r rs = omega arith
+
 module _ (values shown : List ℕ) where
+  -- the node's value is the one shown last
+  abbrev pub is_shown : ℕ → Bool
+  is_shown v = eqb (get_or values v 0) (get_or shown v 0)
+
   fresh-append : (t : ℕ) (vs ws : List ℕ) → fresh t values shown (vs ++ ws) ≡ fresh t values shown vs ++ fresh t values shown ws
   unfolding fresh
   fresh-append t [] ws = refl
-  fresh-append t (v ∷ vs) ws = rw (fresh-append t vs ws) (before_more (eqb (get_or values v 0) (get_or shown v 0)) _ _ _)
-
-  fresh_fewer : (t : ℕ) (watched : List ℕ) (k n : ℕ) → k ≤ n → length (fresh t values shown (take k watched)) ≤ length (fresh t values shown (take n watched))
-  fresh_fewer t watched k n h =
-      let parts : take k watched ++ drop k (take n watched) ≡ take n watched = rw (take-take k n watched h) at (take-append-drop k (take n watched)) in
-      omega (arith, simp (fresh-append, length-append) at (ap (λ vs. length (fresh t values shown vs)) parts))
+  fresh-append t (v ∷ vs) ws = rw (fresh-append t vs ws) (before_more (is_shown v) _ _ _)
 
   -- no more records than watched nodes
   pub fresh_few : (t : ℕ) (vs : List ℕ) → length (fresh t values shown vs) ≤ length vs
   unfolding fresh
   fresh_few t [] = omega arith
-  fresh_few t (v ∷ vs) = before_few (eqb (get_or values v 0) (get_or shown v 0)) _ _ _ (fresh_few t vs)
+  fresh_few t (v ∷ vs) = before_few (is_shown v) _ _ _ (fresh_few t vs)
 
-  -- The watched node number k is v.
-  module _ (watched : List ℕ) (k v : ℕ) (h : k < length watched) (is : v ≡ get_or watched k 0) where
-    -- it has its value shown already,
-    pub fresh_same : get_or values v 0 ≡ get_or shown v 0 → (t : ℕ) → fresh t values shown (take (suc k) watched) ≡ fresh t values shown (take k watched)
+  -- as many as watched nodes have another value
+  pub fresh_counted : (t : ℕ) (vs : List ℕ) → length (fresh t values shown vs) ≡ count_by (λ v. not (is_shown v)) vs
+  unfolding fresh
+  fresh_counted t vs = is_count_by (λ vs. length (fresh t values shown vs)) (λ v. not (is_shown v)) refl (λ v vs. before_counted (is_shown v) _ _) vs
+
+  module _ (t : ℕ) (watched : List ℕ) (k : ℕ) (h : k < length watched) where
+    fresh_more : fresh t values shown (take (k + 1) watched) ≡ fresh t values shown (take k watched) ++ fresh t values shown (get_or watched k 0 ∷ [])
+    fresh_more = ap (fresh t values shown) (take_more watched k 0 h) ∙ fresh-append t (take k watched) (get_or watched k 0 ∷ [])
+
+    -- the next watched node has its value shown already,
+    pub fresh_same : not (is_shown (get_or watched k 0)) ≡ false → fresh t values shown (take (k + 1) watched) ≡ fresh t values shown (take k watched)
     unfolding fresh
-    fresh_same e t = rw (take-suc watched k 0, fresh-append, ← is, eq-eqb _ _ e) (append-nil (fresh t values shown (take k watched)))
+    fresh_same e = fresh_more ∙ rw (not-false (is_shown (get_or watched k 0)) e) (append-nil (fresh t values shown (take k watched)))
 
     -- or it has a record,
-    pub fresh_new : (get_or values v 0 ≡ get_or shown v 0 → ⊥) → (t : ℕ)
-        → fresh t values shown (take (suc k) watched) ≡ fresh t values shown (take k watched) ++ record { tick = t; node = get_or watched k 0; value = get_or values v 0 } ∷ []
+    pub fresh_new : not (is_shown (get_or watched k 0)) ≡ true
+        → fresh t values shown (take (k + 1) watched) ≡ fresh t values shown (take k watched) ++ record { tick = t; node = get_or watched k 0; value = get_or values (get_or watched k 0) 0 } ∷ []
     unfolding fresh
-    fresh_new d t = rw (take-suc watched k 0, fresh-append, ← is, ne_eqb _ _ d)
+    fresh_new e = fresh_more ∙ rw (not-true (is_shown (get_or watched k 0)) e)
 
-    -- for which there is room among those of more nodes
-    pub fresh-room : (get_or values v 0 ≡ get_or shown v 0 → ⊥) → (t n : ℕ) → k < n → length (fresh t values shown (take k watched)) < length (fresh t values shown (take n watched))
-    fresh-room d t n b = omega (arith, fresh_fewer t watched (suc k) n b, simp length-append at (ap length (fresh_new d t)))
+    -- for which there is room among those of all nodes
+    pub fresh_room : not (is_shown (get_or watched k 0)) ≡ true → length (fresh t values shown (take k watched)) < length (fresh t values shown watched)
+    fresh_room e =
+        let parts = ap (λ vs. length (fresh t values shown vs)) (take-append-drop (k + 1) watched) in
+        omega (arith, simp (fresh-append, length-append) at parts, simp length-append at (ap length (fresh_new e)))
 
 shown_append : (values shown vs ws : List ℕ) → show_all values shown (vs ++ ws) ≡ show_all values (show_all values shown vs) ws
 unfolding show_all
 shown_append values shown [] ws = refl
 shown_append values shown (v ∷ vs) ws = shown_append values (set shown v (get_or values v 0)) vs ws
 
-pub shown_next : (values shown watched now : List ℕ) (k v : ℕ) → k < length watched → v ≡ get_or watched k 0
-    → now ≡ show_all values shown (take k watched) → set now v (get_or values v 0) ≡ show_all values shown (take (suc k) watched)
+-- the value of one watched node more is shown
+pub shown_next : (values shown watched : List ℕ) (k : ℕ) → k < length watched
+    → show_all values shown (take (k + 1) watched) ≡ set (show_all values shown (take k watched)) (get_or watched k 0) (get_or values (get_or watched k 0) 0)
 unfolding show_all
-shown_next values shown watched now k v h is e = rw (take-suc watched k 0, shown_append, ← e, ← is)
+shown_next values shown watched k h = ap (show_all values shown) (take_more watched k 0 h) ∙ shown_append values shown (take k watched) (get_or watched k 0 ∷ [])
+
+-- one value is shown for each node, as before
+pub shown_length : (values shown vs : List ℕ) → length (show_all values shown vs) ≡ length shown
+unfolding show_all
+shown_length values shown [] = refl
+shown_length values shown (v ∷ vs) = shown_length values (set shown v (get_or values v 0)) vs ∙ length-set shown v (get_or values v 0)

@@ -4,10 +4,10 @@ use mathlib.Core.List.{List, [], ◌∷◌, ◌++◌, Memᴰ}
 use mathlib.Core.Path.{◌≡◌, refl, sym, ap, ap₂, subst}
 use native.Mathlib.Decide.{ℕ_discrete}
 use native.Mathlib.Omega.{arith}
-use Prim.Native.Nat.{ℕ, zero, suc, ◌≤◌}
+use Prim.Native.Nat.{ℕ, zero, suc, ◌<◌}
 use lib.Dec.{eqb}
 use lib.ListN.{length}
-use Rattle.std.specs.Prelude.{if◌then◌else◌}
+use Rattle.std.specs.Prelude.{if◌then◌else◌, Option, Some, None}
 use Rattle.network.specs.Listing.{Record}
 use Rattle.network.specs.Ends.{Ended}
 use Rattle.listing.specs.Ends.{next_of, with_ends, end_at, Last, nowhere, elsewhere, here, later}
@@ -36,12 +36,12 @@ ends_length ends [] = refl
 ends_length ends (r ∷ rs) = ap suc (ends_length ends rs)
 
 -- a node's next record, where it has none and where it has one
-none_next : {v : ℕ} {rs : List Record} → Last v rs 0 → (end : ℕ) → next_of rs v end ≡ end
+none_next : {v : ℕ} {rs : List Record} → Last v rs None → (end : ℕ) → next_of rs v end ≡ end
 unfolding next_of
 none_next nowhere end = refl
 none_next (elsewhere d l) end = rw (ne_eqb _ _ d) (none_next l end)
 
-some_next : {v n : ℕ} {rs : List Record} → Last v rs (suc n) → (a b : ℕ) → next_of rs v a ≡ next_of rs v b
+some_next : {v n : ℕ} {rs : List Record} → Last v rs (Some n) → (a b : ℕ) → next_of rs v a ≡ next_of rs v b
 unfolding next_of
 some_next (here e l) a b = rw (eq-eqb _ _ e)
 some_next {v} (later {r} l) a b = ap (λ n. if eqb r.node v then r.tick else n) (some_next l a b)
@@ -58,12 +58,12 @@ another_length zero end (r ∷ rs) = refl
 another_length (suc n) end (r ∷ rs) = ap suc (another_length n end rs)
 
 -- another end for a node
-pub none_ended : {v : ℕ} {rs : List Record} → Last v rs 0 → (end : ℕ) (ends : ℕ → ℕ) → with_ends (end_at v end ends) rs ≡ with_ends ends rs
+pub none_ended : {v : ℕ} {rs : List Record} → Last v rs None → (end : ℕ) (ends : ℕ → ℕ) → with_ends (end_at v end ends) rs ≡ with_ends ends rs
 unfolding with_ends
 none_ended nowhere end ends = refl
 none_ended {v} (elsewhere {r} d l) end ends = rw (ne_eqb v r.node (λ e. d (sym e)), none_ended l end ends)
 
-pub last_ended : {v n : ℕ} {rs : List Record} → Last v rs (suc n) → (end : ℕ) (ends : ℕ → ℕ) → with_ends (end_at v end ends) rs ≡ another_end n end (with_ends ends rs)
+pub last_ended : {v n : ℕ} {rs : List Record} → Last v rs (Some n) → (end : ℕ) (ends : ℕ → ℕ) → with_ends (end_at v end ends) rs ≡ another_end n end (with_ends ends rs)
 unfolding with_ends
 last_ended {v} (here {r} {rs} e l) end ends = ap₂ (λ e l. record { start = r; end = e } ∷ l) first (none_ended l end ends)
   where
@@ -72,24 +72,22 @@ last_ended {v} (here {r} {rs} e l) end ends = ap₂ (λ e l. record { start = r;
 last_ended {v} (later {r} {rs} {n} l) end ends = ap₂ (λ e l. record { start = r; end = e } ∷ l) (first (ℕ_discrete v r.node)) (last_ended l end ends)
   where
     first : Dec (v ≡ r.node) → next_of rs r.node (end_at v end ends r.node) ≡ next_of rs r.node (ends r.node)
-    first (yes e) = some_next (subst (λ v. Last v rs (suc n)) e l) _ _
+    first (yes e) = some_next (subst (λ v. Last v rs (Some n)) e l) _ _
     first (no d) = rw (ne_eqb v r.node d)
 
 -- a record more
-pub last_still : {v n : ℕ} {rs : List Record} → Last v rs n → (r : Record) → (r.node ≡ v → ⊥) → Last v (rs ++ r ∷ []) n
+pub last_still : {v : ℕ} {n : Option ℕ} {rs : List Record} → Last v rs n → (r : Record) → (r.node ≡ v → ⊥) → Last v (rs ++ r ∷ []) n
 last_still nowhere r d = elsewhere d nowhere
 last_still (elsewhere f l) r d = elsewhere f (last_still l r d)
 last_still (here e l) r d = here e (last_still l r d)
 last_still (later l) r d = later (last_still l r d)
 
-pub last_new : {v n : ℕ} {rs : List Record} → Last v rs n → (r : Record) → r.node ≡ v → Last v (rs ++ r ∷ []) (suc (length rs))
+pub last_new : {v : ℕ} {n : Option ℕ} {rs : List Record} → Last v rs n → (r : Record) → r.node ≡ v → Last v (rs ++ r ∷ []) (Some (length rs))
 last_new nowhere r e = here e nowhere
 last_new (elsewhere f l) r e = later (last_new l r e)
 last_new (here f l) r e = later (last_new l r e)
 last_new (later l) r e = later (last_new l r e)
 
-pub last_known : {v n : ℕ} {rs : List Record} → Last v rs n → n ≤ length rs
-last_known nowhere = omega arith
-last_known (elsewhere d l) = omega arith
+pub last_known : {v n : ℕ} {rs : List Record} → Last v rs (Some n) → n < length rs
 last_known (here e l) = omega arith
 last_known (later l) = omega (arith, last_known l)

@@ -11,6 +11,7 @@ use lib.Seq.{set-get_or}
 use Rattle.std.specs.Prelude.{if◌then◌else◌}
 use Rattle.network.specs.Listing.{Record}
 use Rattle.model.specs.Fresh.{fresh, show_all}
+use Rattle.listing.specs.declared.Listing.{Listing}
 use Rattle.listing.specs.Ends.{Holding}
 use Rattle.listing.specs.Step.{RecordsWritten}
 
@@ -26,11 +27,11 @@ shown_still t values shown (v ∷ vs) e = at (eqb (get_or values v 0) (get_or sh
     at false q rest e = absurd (omega arith)
 
 -- and the listing as it is
-pub nothing_written : (t : ℕ) {buffer : List ℕ} {n : ℕ} {before : List Record} {listing values shown watched places : List ℕ} → length (fresh t values shown watched) ≡ 0 → length shown ≡ 256
-    → Holding buffer before n listing places → RecordsWritten buffer before listing shown places t watched values n listing shown places
-nothing_written t {buffer} {n} {before} {listing} {values} {shown} {watched} {places} e size h =
-    record { holding = same (fresh t values shown watched) e; now_shown = sym (shown_still t values shown watched e); shown_size = size }
+pub nothing_written : (t : ℕ) {buffer : List ℕ} {before : List Record} {watched values : List ℕ} {listing : Listing} → length (fresh t values listing.values watched) ≡ 0
+    → length listing.values ≡ 256 → Holding buffer before listing → RecordsWritten buffer before listing t watched values listing
+nothing_written t {buffer} {before} {watched} {values} {listing} e size h =
+    record { holding = same (fresh t values listing.values watched) e; now_shown = sym (shown_still t values listing.values watched e); shown_size = size }
   where
-    same : (records : List Record) → length records ≡ 0 → Holding buffer (before ++ records) n listing places
+    same : (records : List Record) → length records ≡ 0 → Holding buffer (before ++ records) listing
     same [] z = rw append-nil h
     same (r ∷ rs) z = absurd (omega arith)

@@ -1,9 +1,10 @@
 -- The ends that records get while they are listed: from later records of the same node, and at the last what is given for the node.
-use Rattle.std.specs.Prelude.{List, [], ◌∷◌, ◌≡◌, ℕ, zero, suc, ◌*◌, ◌<◌, ◌≤◌, eqb, length, get_or, if◌then◌else◌}
+use Rattle.std.specs.Prelude.{List, [], ◌∷◌, ◌≡◌, ℕ, zero, suc, ◌*◌, ◌<◌, ◌≤◌, eqb, length, get_or, if◌then◌else◌, Option, Some, None}
 use Rattle.sheet.specs.Limits.{most_nodes}
 use Rattle.network.specs.Listing.{Record}
 use Rattle.network.specs.Ends.{Ended}
 use Rattle.network.specs.Buffer.{record_size, buffer_after}
+use Rattle.listing.specs.declared.Listing.{Listing}
 
 -- the tick of the first of these records that is the node's, and what is given where there is none
 unfoldable pub next_of : List Record → ℕ → ℕ → ℕ
@@ -19,17 +20,17 @@ with_ends ends (r ∷ rs) = record { start = r; end = next_of rs r.node (ends r.
 abbrev pub end_at : ℕ → ℕ → (ℕ → ℕ) → ℕ → ℕ
 end_at v end ends w = if eqb v w then end else ends w
 
--- A node's last record, by its number, counted from 1; 0 where the node has none.
-pub data Last (v : ℕ) : List Record → ℕ → Type 0 where
-  nowhere : Last v [] 0
-  elsewhere : {r : Record} {rs : List Record} → (r.node ≡ v → ⊥) → Last v rs 0 → Last v (r ∷ rs) 0
-  here : {r : Record} {rs : List Record} → r.node ≡ v → Last v rs 0 → Last v (r ∷ rs) 1
-  later : {r : Record} {rs : List Record} {n : ℕ} → Last v rs (suc n) → Last v (r ∷ rs) (suc (suc n))
+-- A node's last record, by its number, where the node has one.
+pub data Last (v : ℕ) : List Record → Option ℕ → Type 0 where
+  nowhere : Last v [] None
+  elsewhere : {r : Record} {rs : List Record} → (r.node ≡ v → ⊥) → Last v rs None → Last v (r ∷ rs) None
+  here : {r : Record} {rs : List Record} → r.node ≡ v → Last v rs None → Last v (r ∷ rs) (Some 0)
+  later : {r : Record} {rs : List Record} {n : ℕ} → Last v rs (Some n) → Last v (r ∷ rs) (Some (suc n))
 
 -- each node's last record has its place
-pub record Placed (records : List Record) (places : List ℕ) : Type 0 where
+pub record Placed (records : List Record) (places : List (Option ℕ)) : Type 0 where
   pub size : length places ≡ most_nodes
-  pub last : (v : ℕ) → v < most_nodes → Last v records (get_or places v 0)
+  pub last : (v : ℕ) → v < most_nodes → Last v records (get_or places v None)
 
 -- a value that still lasts has no end yet
 abbrev pub not_ended : ℕ → ℕ
@@ -41,8 +42,12 @@ ends_for nodes end zero = not_ended
 ends_for nodes end (suc k) = end_at (get_or nodes k 0) end (ends_for nodes end k)
 
 -- The listing between ticks: so many records are written into the buffer, values that still last have end 0, and the places are theirs.
-pub record Holding (buffer : List ℕ) (records : List Record) (n : ℕ) (listing places : List ℕ) : Type 0 where
-  pub counted : n ≡ length records
+pub record Holding (buffer : List ℕ) (records : List Record) (listing : Listing) : Type 0 where
+  pub counted : listing.written ≡ length records
   pub fits : record_size * length records ≤ length buffer
-  pub bytes : listing ≡ buffer_after (with_ends not_ended records) buffer
-  pub placed : Placed records places
+  pub bytes : listing.bytes.now ≡ buffer_after (with_ends not_ended records) buffer
+  pub placed : Placed records listing.places
+
+-- it holds some records of some buffer
+abbrev pub Held : Listing → Type 0
+Held listing = (buffer : List ℕ) × (records : List Record) × Holding buffer records listing

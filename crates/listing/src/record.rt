@@ -5,10 +5,12 @@ ghost use Rattle.format.specs.Encode.{long_bytes};
 ghost use Rattle.network.specs.Buffer.{record_size, record_in};
 ghost use Rattle.listing.specs.Record.{record_of, put, written, end_written};
 
+use sheet::byte;
+
 pub(crate) const RECORD_SIZE: usize = 10;
 
 // A record of the listing.
-#[derive(Clone, Copy)]
+#[derive(Clone, Copy, PartialEq, Eq)]
 pub struct Listed {
     pub tick: u32,
     pub node: u8,
@@ -21,23 +23,19 @@ pub fn write_long(listing: &mut [u8], at: usize, n: u32)
     requires { at + 4 ≤ length listing.old }
     ensures { listing.new ≡ put at (long_bytes n) listing.old }
 {
-    listing[at] = (n % 256) as u8;
-    listing[at + 1] = (n / 256 % 256) as u8;
-    listing[at + 2] = (n / 65536 % 256) as u8;
-    listing[at + 3] = (n / 16777216 % 256) as u8;
+    listing[at..at + 4].copy_from_slice(&n.to_le_bytes());
 }
 
 // Writes record number n of the listing.
-pub(crate) fn write_record(listing: &mut [u8], n: usize, t: u32, node: u8, value: u8, end: u32)
+pub(crate) fn write_record(listing: &mut [u8], n: usize, listed: Listed)
     requires { record_size * (n + 1) ≤ length listing.old }
-    ensures { listing.new
-        ≡ written n (record { start = record { tick = t; node = node; value = value }; end = end } ∷ []) listing.old }
+    ensures { listing.new ≡ written n (record_of listed ∷ []) listing.old }
 {
     let at = RECORD_SIZE * n;
-    write_long(listing, at, t);
-    listing[at + 4] = node;
-    listing[at + 5] = value;
-    write_long(listing, at + 6, end);
+    write_long(listing, at, listed.tick);
+    listing[at + 4] = listed.node;
+    listing[at + 5] = listed.value;
+    write_long(listing, at + 6, listed.end);
 }
 
 // Puts another end into record number n of the listing.
@@ -48,27 +46,16 @@ pub(crate) fn write_end(listing: &mut [u8], n: usize, end: u32)
     write_long(listing, RECORD_SIZE * n + 6, end);
 }
 
-// The number of four bytes, the low byte first.
-fn long_of(a: u8, b: u8, c: u8, d: u8) -> u32
-    ensures { result ≡ a + 256 * b + 65536 * c + 16777216 * d }
-{
-    (a as u32) + 256 * (b as u32) + 65536 * (c as u32) + 16777216 * (d as u32)
-}
-
-// The number of four bytes at a place of a record, whose number has 32 bits. Within the listing they are read at once.
+// The number of four bytes at a place of a record, whose number has 32 bits, the low byte first. Within the listing they are read at once, and not
+// byte by byte as `sheet` reads a sheet's: a report took 8.0 ns a pulse so, and takes 3.4.
 fn long(s: &[u8], p: usize) -> u32
     requires { p < record_size * 2 ^ 32 }
     ensures { result ≡ long_at s.now p }
 {
     if p + 4 <= s.len() {
-        return long_of(s[p], s[p + 1], s[p + 2], s[p + 3]);
+        return u32::from_le_bytes([s[p], s[p + 1], s[p + 2], s[p + 3]]);
     }
-    long_of(
-        sheet::byte(s, p),
-        sheet::byte(s, p + 1),
-        sheet::byte(s, p + 2),
-        sheet::byte(s, p + 3),
-    )
+    u32::from_le_bytes([byte(s, p), byte(s, p + 1), byte(s, p + 2), byte(s, p + 3)])
 }
 
 // Record number i of the listing, and zeros past its end.
@@ -78,8 +65,8 @@ pub fn record_at(listing: &[u8], i: u32) -> Listed
     let at = RECORD_SIZE * (i as usize);
     Listed {
         tick: long(listing, at),
-        node: sheet::byte(listing, at + 4),
-        value: sheet::byte(listing, at + 5),
+        node: byte(listing, at + 4),
+        value: byte(listing, at + 5),
         end: long(listing, at + 6),
     }
 }

@@ -1,25 +1,26 @@
 -- What is refused before the output is looked at: what the sheet's own edition refuses, then a count that is too great, and otherwise nothing. Assumes nothing.
 use lib.Dec.{eqb, ltb}
-use lib.ListN.{length}
+use lib.ListN.{length, take, drop}
 use mathlib.Core.Bool.{false, ◌&&◌}
-use mathlib.Core.List.{List}
+use mathlib.Core.List.{List, ◌++◌}
 use mathlib.Core.Logic.{◌⊎◌, inl, inr}
-use mathlib.Core.Path.{◌≡◌, sym, ap, ◌∙◌, subst, subst₂}
+use mathlib.Core.Path.{◌≡◌, sym, ◌∙◌}
 use native.Mathlib.Omega.{arith}
 use Prim.Native.Nat.{ℕ, ◌+◌, ◌<◌, ◌≤◌}
-use Rattle.sheet.specs.declared.Answer.{Answer}
-use Rattle.sheet.specs.declared.Answer.TheVariants.{Refused}
+use Rattle.sheet.specs.declared.refusal.Refusal.{Refusal}
 use Rattle.sheet.specs.declared.Edition.{Edition}
 use Rattle.sheet.specs.Limits.{most_events}
 use Rattle.sheet.specs.Layout.{drive_place, watched_place}
-use Rattle.sheet.specs.Outcome.{Outcome, finished, refused, or_else, outcome_of}
+use Rattle.sheet.specs.Outcome.{Outcome, finished, refused}
 use Rattle.sheet.specs.Refusal.{rows, first, checked_by, checked}
+use Rattle.sheet.specs.Told.{as_refused}
+use Rattle.sheet.proofs.Told.{is_refused}
 use Rattle.sheet.proofs.Rows.{passed_append, refused_append, both_passed, finished≢refused}
-use Rattle.sheet.proofs.Tests.{Tells, fails, decided, at_most, tells_and, tells_eq, tells_lt, tells_or}
+use Rattle.sheet.proofs.Tests.{Tells, fails, at_most, tells_and, tells_eq, tells_lt, tells_or}
 use Rattle.format.specs.Made.{Makes, sheet_made}
-use Rattle.format.proofs.Made.{refused_before}
-use Rattle.draw.specs.Drive.{drawn_drive}
-use Rattle.loaded.specs.Loaded.{with_section, inputs_in, loaded}
+use Rattle.draw.specs.Drive.{drawn_drive, drive_bytes}
+use Rattle.loaded.specs.Loaded.{inputs_in, loaded}
+use Rattle.loaded.proofs.Making.{not_begun}
 use Rattle.loaded.specs.Loading.{drawn_too_many, too_many, drawn_rows, load_rows, Loads}
 
 -- inputs plus n above 1,024, or n above 0 with no input
@@ -48,13 +49,8 @@ passing inputs n h = (at_most (λ l. h (inl l)), λ l. some (λ e. h (inr (l, e)
     some : (inputs ≡ 0 → ⊥) → 0 < inputs
     some d = omega arith
 
--- where it does not pass, what would follow is not looked at
-pub either : (inputs n : ℕ) {a b : Outcome} → (n ≤ most_events → a ≡ b) → or_else (first (drawn_rows inputs n)) a ≡ or_else (first (drawn_rows inputs n)) b
-either inputs n {a} {b} same = by (decided (too_many inputs n) (tells_too_many inputs n))
-  where
-    by : Dec (TooMany inputs n) → or_else (first (drawn_rows inputs n)) a ≡ or_else (first (drawn_rows inputs n)) b
-    by (yes h) = rw (drawn_refused inputs n h)
-    by (no h) = ap (or_else (first (drawn_rows inputs n))) (same (omega (arith, (passing inputs n h).0)))
+pub drawn_few : (inputs n : ℕ) {k : ℕ} → finished k ≡ first (drawn_rows inputs n) → (inputs + n ≤ most_events) × (0 < n → 0 < inputs)
+drawn_few inputs n e = passing inputs n (few_drawn inputs n (sym e))
 
 module _ (e : Edition) (s : List ℕ) (n : ℕ) where
   -- what the sheet's own edition refuses stands
@@ -71,18 +67,14 @@ module _ (e : Edition) (s : List ℕ) (n : ℕ) where
   unfolding load_rows checked_by
   both_passed_by h = let both = both_passed (rows false e s) (drawn_rows (length (inputs_in e s)) n) h in (both.0, few_drawn (length (inputs_in e s)) n both.1)
 
-  -- an answer of the check that is a refusal is the load's
-  pub not_accepted : (seed : ℕ) (output : List ℕ) (a : Answer) → outcome_of a ≡ checked e s → {m p k : ℕ} → a ≡ Refused m p k → Loads e s seed n output (outcome_of a) output
-  not_accepted seed output a told {m} {p} {k} refusal =
-      let o = ap outcome_of refusal in
-      subst (λ o. Loads e s seed n output o output) (sym o) (refused_before (sheet_made (loaded e s seed n)) output (own_refused (sym told ∙ o)))
+  -- a refusal of the check is the load's
+  pub not_accepted : (seed : ℕ) (output : List ℕ) (r : Refusal) → checked e s ≡ as_refused r → Loads e s seed n output (as_refused r) output
+  not_accepted seed output r told = let h = is_refused r in not_begun (sheet_made (loaded e s seed n)) output r (h.3 ∙ sym (own_refused (told ∙ h.3)))
 
-  -- and a load by its parts: the places of the drive's section, and the inputs
-  pub by_parts : checked e s ≡ finished 0 → (seed : ℕ) {drive watched : ℕ} {inputs output after : List ℕ} {answer : Outcome}
-      → drive ≡ drive_place e s → watched ≡ watched_place e s → inputs ≡ inputs_in e s
-      → Makes (first (drawn_rows (length inputs) n)) (sheet_made (with_section s drive watched (drawn_drive inputs seed n))) output answer after → Loads e s seed n output answer after
+  -- and a load by its parts: what stands before the drive's section and after it, and the inputs
+  pub by_parts : checked e s ≡ finished 0 → (seed : ℕ) {before behind inputs output after : List ℕ} {answer : Outcome}
+      → before ≡ take (drive_place e s) s → behind ≡ drop (watched_place e s) s → inputs ≡ inputs_in e s
+      → Makes (first (drawn_rows (length inputs) n)) (sheet_made (before ++ drive_bytes (drawn_drive inputs seed n) ++ behind)) output answer after
+      → Loads e s seed n output answer after
   unfolding loaded
-  by_parts ok seed {drive} {watched} {inputs} {output} {after} {answer} from to given makes =
-      subst (λ o. Makes o (sheet_made (with_section s (drive_place e s) (watched_place e s) (drawn_drive (inputs_in e s) seed n))) output answer after) (sym (own_passed ok))
-      (subst (λ l. Makes (first (drawn_rows (length l) n)) (sheet_made (with_section s (drive_place e s) (watched_place e s) (drawn_drive l seed n))) output answer after) given
-      (subst₂ (λ p q. Makes (first (drawn_rows (length inputs) n)) (sheet_made (with_section s p q (drawn_drive inputs seed n))) output answer after) from to makes))
+  by_parts ok seed from to given makes = rw (own_passed ok) (rw (from, to, given) at makes)

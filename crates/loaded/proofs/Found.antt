@@ -2,7 +2,7 @@
 use lib.Dec.{eqb}
 use lib.ListN.{length, take, drop}
 use lib.Seq.{take_at}
-use mathlib.Core.List.{List, [], ◌++◌}
+use mathlib.Core.List.{List, ◌++◌}
 use mathlib.Core.Path.{◌≡◌, refl, sym, ap, ◌∙◌}
 use native.Mathlib.Omega.{arith}
 use Prim.Native.Nat.{ℕ, ◌≤◌}
@@ -14,8 +14,8 @@ use Rattle.sheet.specs.Sheet.{node_byte}
 use Rattle.sheet.proofs.Chosen.{chosen_same, chosen_few}
 use Rattle.sheet.proofs.Parts.{counts_nodes, node_byte_lem}
 use Rattle.format.specs.Accepted.{AcceptedIn}
-use Rattle.lent.specs.Lent.{Prints}
-use Rattle.lent.proofs.Putting.{none-printed, whole}
+use Rattle.lent.specs.Lent.{Printed}
+use Rattle.lent.proofs.Putting.{whole}
 use Rattle.loaded.specs.Loaded.{inputs_in}
 use Rattle.loaded.proofs.Inputs.{inputs_by_bytes}
 
@@ -33,9 +33,9 @@ module _ (e : Edition) (s : List ℕ) (ok : AcceptedIn e s) where
   few = omega (arith, chosen_few (nodes_counted s) (λ v. eqb (node_at s v) input_byte) (λ v. v), ok.sheet.nodes, counts_nodes e s)
 
   -- in an array of 256 numbers, of which the first so many are the inputs
-  module _ {array after : List ℕ} {count : ℕ} (room : length array ≡ 256) (put : Prints found array 0 after count) where
+  module _ {array after : List ℕ} {count : ℕ} (room : length array ≡ 256) (put : Printed array found after count) where
     put_whole : (count ≡ length found) × (after ≡ found ++ drop (length found) array)
-    put_whole = whole (put array [] (none-printed array)) (omega (arith, few, room))
+    put_whole = whole put (omega (arith, few, room))
 
     pub count_below : count ≤ 256
     count_below = omega (arith, put_whole.0, few)

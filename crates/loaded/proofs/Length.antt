@@ -1,7 +1,7 @@
 -- How long a loaded sheet is: as many bytes as the given one, but for its events. Assumes nothing.
 use lib.ListN.{length, length-append, length-take, length-drop, take, drop}
 use mathlib.Core.List.{List, ◌++◌}
-use mathlib.Core.Path.{◌≡◌, ap, ◌∙◌}
+use mathlib.Core.Path.{◌≡◌, ◌∙◌}
 use native.Mathlib.Omega.{arith}
 use Prim.Native.Nat.{ℕ, ◌+◌, ◌-◌, ◌*◌, ◌≤◌}
 use Rattle.sheet.specs.declared.Edition.{Edition}
@@ -22,6 +22,12 @@ pub section_length : (s : List ℕ) (from to : ℕ) (drive : List Event) → fro
 section_length s from to drive h =
     length-append (take from s ++ drive_bytes drive) (drop to s)
     ∙ omega (arith, length-append (take from s) (drive_bytes drive), length-take from s, length-drop to s, drive_length drive, h)
+
+-- what stands before and after the drive's section, and the drawn one
+pub parts_length : (before after inputs : List ℕ) (seed n : ℕ) → length (before ++ drive_bytes (drawn_drive inputs seed n) ++ after) ≡ length before + 2 + 6 * (length inputs + n) + length after
+parts_length before after inputs seed n =
+    length-append (before ++ drive_bytes (drawn_drive inputs seed n)) after
+    ∙ omega (arith, length-append before (drive_bytes (drawn_drive inputs seed n)), drive_length (drawn_drive inputs seed n), drawn_length inputs seed n)
 
 module _ {e : Edition} (known : Known e) (s : List ℕ) (ok : AcceptedIn e s) where
   pub drive_within : drive_place e s ≤ length s

@@ -5,5 +5,6 @@ pub mod Found
 pub mod WithDrive
 pub mod Written
 pub mod Length
+pub mod Making
 pub mod Answers
 pub mod Theorems

@@ -8,30 +8,25 @@ use native.Mathlib.Numerals.{add-one}
 use native.Mathlib.Omega.{arith}
 use borrow.Author.Tests.{eq-eqb, ne_eqb}
 use lib.Dec.{eqb}
-use lib.ListN.{get_or, set, take, drop, length-set}
-use lib.Seq.{take-suc, drop-cons, take-suc-set, take-set-lt, drop-set-lt, take_all, length-take-le, get_or-take}
+use lib.ListN.{length, get_or, set, take, drop, length-set}
+use lib.Seq.{take-suc, drop-cons, take-suc-set, take-set-lt, drop-set-lt, length-take-le, get_or-take}
 use Rattle.std.specs.Prelude.{if◌then◌else◌}
 use Rattle.sheet.proofs.Listed.{get_or-mem}
 use Rattle.model.specs.Change.{Change}
 use Rattle.pending.specs.declared.Scan.{Scan}
-use Rattle.pending.specs.Flat.{places, unpacked, flat_due, flat_rest}
-use Rattle.pending.specs.Kept.{arrangement, kept_in, Sized}
-use Rattle.pending.specs.Taking.{from_start, Taking, OneTaken, OneKept, AllTaken}
+use Rattle.pending.specs.Flat.{unpacked, flat_due, flat_rest}
+use Rattle.pending.specs.Taking.{from_start, Taking, OneTaken, OneKept}
 
-abbrev scanned : ℕ → ℕ → Scan
-scanned kept at = record { kept = kept; at = at }
-
--- so many numbers of a store are so many changes
-pub counts_first : (store : List ℕ) (count : ℕ) → Sized store → count ≤ places → arrangement.count (kept_in store count) ≡ count
-counts_first store count e h = length-take-le count store (omega arith)
+abbrev scanned : ℕ → ℕ → ℕ → Scan
+scanned kept at end = record { kept = kept; at = at; end = end }
 
 -- before the first change
-pub at_start : (t : ℕ) (store : List ℕ) (count : ℕ) → Sized store → count ≤ places → Taking (kept_in store count) t [] store count from_start
+pub at_start : (t : ℕ) (held : List ℕ) → Taking held t [] held (from_start held)
 unfolding flat_due flat_rest
-at_start t store count e h =
+at_start t held =
     record {
-      within = record { kept = omega arith; at = omega arith; room = h; size = e };
-      counted = counts_first store count e h;
+      within = record { kept = omega arith; at = omega arith; all = refl };
+      counted = refl;
       takes = refl;
       stay = refl;
       ahead = refl;
@@ -69,22 +64,20 @@ cons_head e = cc
 cons_tail : {x y : ℕ} {k l : List ℕ} → x ∷ k ≡ y ∷ l → k ≡ l
 cons_tail e = cc
 
-module _ {start : List ℕ} {t : ℕ} {taken : List Change} {store : List ℕ} {count kept at : ℕ} (w : Taking start t taken store count (scanned kept at)) where
-  module _ (h : at < count) where
+module _ {start : List ℕ} {t : ℕ} {taken : List Change} {held : List ℕ} {kept at end : ℕ} (w : Taking start t taken held (scanned kept at end)) where
+  module _ (h : at < end) where
     abbrev here : ℕ
-    here = get_or store at 0
+    here = get_or held at 0
 
     -- the number at `at` stands where it stood, and so do those behind it
-    ahead : here ∷ drop (at + 1) (take count store) ≡ get_or start at 0 ∷ drop (at + 1) start
-    ahead =
-        rw (← get_or-take count store at 0 h, add-one)
-        (sym (drop-cons (take count store) at 0 (rw (counts_first store count w.within.size w.within.room) h)) ∙ (w.ahead ∙ drop-cons start at 0 (omega arith)))
+    ahead : here ∷ drop (at + 1) held ≡ get_or start at 0 ∷ drop (at + 1) start
+    ahead = rw add-one (sym (drop-cons held at 0 (omega arith)) ∙ (w.ahead ∙ drop-cons start at 0 (omega arith)))
 
     one_more : take (at + 1) start ≡ take at start ++ here ∷ []
     one_more = rw (add-one, cons_head ahead) (take-suc start at 0 (omega arith))
 
     pub due_passed : (unpacked here).due ≡ t
-        → OneTaken start t taken store count (scanned kept at) (record { due = t; position = (unpacked here).position; value = (unpacked here).value }) (scanned kept (at + 1))
+        → OneTaken start t taken held (scanned kept at end) (record { due = t; position = (unpacked here).position; value = (unpacked here).value }) (scanned kept (at + 1) end)
     due_passed e =
         record {
           position = omega arith;
@@ -93,7 +86,7 @@ module _ {start : List ℕ} {t : ℕ} {taken : List Change} {store : List ℕ} {
           nearer = omega arith;
           taking =
               record {
-                within = record { kept = omega arith; at = omega arith; room = w.within.room; size = w.within.size };
+                within = record { kept = omega arith; at = omega arith; all = w.within.all };
                 counted = w.counted;
                 takes = rw (one_more, due_more, eq-eqb (unpacked here).due t e, e, ← w.takes);
                 stay = rw (one_more, rest_more, eq-eqb (unpacked here).due t e) (w.stay ∙ sym (append-nil _));
@@ -101,26 +94,24 @@ module _ {start : List ℕ} {t : ℕ} {taken : List Change} {store : List ℕ} {
               };
         }
 
-    pub kept_passed : ((unpacked here).due ≡ t → ⊥) → OneKept start t taken (set store kept here) count (scanned kept at) (scanned (kept + 1) (at + 1))
+    pub kept_passed : ((unpacked here).due ≡ t → ⊥) → OneKept start t taken (set held kept here) (scanned kept at end) (scanned (kept + 1) (at + 1) end)
     kept_passed e =
         record {
           nearer = omega arith;
           taking =
               record {
-                within = record { kept = omega arith; at = omega arith; room = w.within.room; size = length-set store kept here ∙ w.within.size };
-                counted = w.counted;
+                within = record { kept = omega arith; at = omega arith; all = w.within.all ∙ sym (length-set held kept here) };
+                counted = w.counted ∙ sym (length-set held kept here);
                 takes = rw (one_more, due_more, ne_eqb (unpacked here).due t e) (w.takes ∙ sym (append-nil _));
-                stay = rw (one_more, rest_more, ne_eqb (unpacked here).due t e, add-one, ← w.stay) (take-suc-set store kept here (omega arith));
-                ahead = rw (take-set-lt count store kept here (omega arith), drop-set-lt (at + 1) (take count store) kept here (omega arith)) (cons_tail ahead);
+                stay = rw (one_more, rest_more, ne_eqb (unpacked here).due t e, add-one, ← w.stay) (take-suc-set held kept here (omega arith));
+                ahead = rw (drop-set-lt (at + 1) held kept here (omega arith)) (cons_tail ahead);
               };
         }
 
-  pub all_passed : count ≤ at → AllTaken start t taken store count kept
-  all_passed h =
-      let e : take at start ≡ start = take_all at start (omega arith) in
-      record {
-        takes = rw e at w.takes;
-        stay = rw e at w.stay;
-        fewer = omega arith;
-        size = w.within.size;
-      }
+-- the numbers held are the first of an array
+module _ (changes : List ℕ) (count : ℕ) {held : List ℕ} (v : held ≡ take count changes) (few : count ≤ length changes) {i : ℕ} (h : i < length held) where
+  pub number_at : get_or changes i 0 ≡ get_or held i 0
+  number_at = rw v (sym (get_or-take count changes i 0 (omega (arith, ap length v, length-take-le count changes few))))
+
+  pub number_set : (x : ℕ) → take count (set changes i x) ≡ set held i x
+  number_set x = rw v (take-set-lt count changes i x (omega (arith, ap length v, length-take-le count changes few)))

@@ -15,7 +15,7 @@ pub const INPUT: usize = HORIZON + 8457;
 fn horizon_in(input: &[u8]) -> u32
     ensures { result ≡ horizon_in input.now }
 {
-    (sheet::word(input, 0) as u32) + 65536 * (sheet::word(input, 2) as u32)
+    sheet::long(input, 0)
 }
 
 // The sheet: what follows the horizon, and at most 8,457 bytes of it.
@@ -23,13 +23,7 @@ fn sheet_in(input: &[u8]) -> &[u8]
     ensures { result.now ≡ sheet_in input.now }
 {
     let n = input.len();
-    if n < HORIZON {
-        return &input[n..];
-    }
-    if n < INPUT {
-        return &input[HORIZON..];
-    }
-    &input[HORIZON..INPUT]
+    &input[n.min(HORIZON)..n.min(INPUT)]
 }
 
 // Runs the input's sheet to its horizon over a lent listing, and prints the answer and its records into a lent text.

@@ -4,9 +4,12 @@ use mathlib.Core.Path.{◌≡◌, refl, sym, ap, ◌∙◌, subst}
 use native.Mathlib.Omega.{arith}
 use Prim.Native.Nat.{ℕ}
 use lib.ListN.{length}
+use Rattle.sheet.specs.declared.refusal.Refusal.{Refusal}
 use Rattle.sheet.specs.declared.Edition.{Edition}
 use Rattle.sheet.specs.Layout.{sheet_of}
 use Rattle.sheet.specs.Outcome.{Outcome, finished, refused}
+use Rattle.sheet.specs.Told.{as_refused}
+use Rattle.sheet.proofs.Told.{is_refused}
 use Rattle.format.specs.Accepted.{Known}
 use Rattle.format.specs.Made.{Makes}
 use Rattle.format.proofs.Made.{refused_before}
@@ -52,6 +55,10 @@ module _ {E : Edition} (known : Known E) (s : List ℕ) (horizon width : ℕ) wh
           makes = refused_before (report_of (pulses_of E s horizon width) (length (ran_for E s horizon width (length listing)).records)) report (ap (λ o. (unless_refused o run).answer) e);
         }
 
+    -- the same of the code's refusal
+    pub not_run : (r : Refusal) → as_refused r ≡ asked horizon width → Reports E s horizon width listing report (as_refused r) listing report
+    not_run r told = let h = is_refused r in rw h.3 (refused_asked (sym told ∙ h.3))
+
     -- the run is that of the sheet
     module _ {j : ℕ} (in_range : asked horizon width ≡ finished j) where
       runs : ran_for E s horizon width (length listing) ≡ run
@@ -64,6 +71,9 @@ module _ {E : Edition} (known : Known E) (s : List ℕ) (horizon width : ℕ) wh
             left = l.left ∙ sym (ap (λ w. buffer_after w.records listing) runs);
             makes = refused_before (report_of (pulses_of E s horizon width) (length (ran_for E s horizon width (length listing)).records)) report (ap (λ w. w.answer) runs ∙ sym l.answered);
           }
+
+      pub not_finished : (r : Refusal) {listed : List ℕ} → RunLeaves E s horizon listing (as_refused r) listed → Reports E s horizon width listing report (as_refused r) listed report
+      not_finished r l = let h = is_refused r in rw h.3 (refused_run (rw h.3 at l))
 
       -- a finished one is reported from its listing
       pub reported : {n : ℕ} {listed reported : List ℕ} {answer : Outcome} → RunLeaves E s horizon listing (finished n) listed

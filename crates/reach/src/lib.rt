@@ -1,43 +1,48 @@
 // Zero-delay links between nodes, which node leads to which over them, and the least node on a zero-delay loop.
 #![tactic(auto)]
 
-ghost use Rattle.std.specs.Prelude.{false, ◌&&◌, ◌≡◌, ℕ, ◌<◌, ◌≤◌, min, eqb, length, get_or};
+ghost use Rattle.std.specs.Prelude.{false, ◌&&◌, ◌≡◌, ℕ, ◌<◌, ◌≤◌, min, eqb, get_or, length, take};
 ghost use Rattle.sheet.specs.Limits.{most_nodes, most_modules};
 ghost use Rattle.sheet.specs.Enumerate.{each};
 ghost use Rattle.sheet.specs.Sheet.{Sheet, node_count};
-ghost use Rattle.sheet.specs.Outcome.{outcome_of};
+ghost use Rattle.sheet.specs.Told.{refusal_in};
 ghost use Rattle.sheet.specs.Loop.{leads, leads_over};
 ghost use Rattle.sheet.specs.Refusal.{loop_rows, first};
-ghost use Rattle.reach.specs.Links.{links, links_below, matrix_size, entry, Holds, Adds, diagonal_rows, Network};
+ghost use Rattle.reach.specs.Links.{links, links_below, entry, Holds, Adds, RowAdds, diagonal_rows, Network};
 
-use sheet::{Answer, MODULES, MOST_NODES, Module, NODES};
+use sheet::{MODULES, MOST_NODES, Module, NODES, Refusal};
 
-// A flag for each two nodes.
-pub const LINKS: usize = NODES * NODES;
+// A row for each node, a flag for each node that it leads to.
+pub type Matrix = [[bool; NODES]; NODES];
 
-// A count of nodes or of modules, cut to the greatest one.
-pub fn cut(count: u16) -> u16
-    ensures { result ≡ min count most_nodes }
+// No node leads anywhere: what a matrix begins as.
+pub const UNLINKED: Matrix = [[false; NODES]; NODES];
+
+// The first modules of a list, as many as a sheet may have.
+#[tactic(auto, using(std::proofs::lemmas::List::take_min))]
+pub fn cut(modules: &[Module]) -> &[Module]
+    ensures first { result.now ≡ take most_modules modules.now }
+    ensures few { length result.now ≤ most_modules }
 {
-    if MOST_NODES < count {
-        MOST_NODES
-    } else {
-        count
-    }
+    &modules[..MODULES.min(modules.len())]
+}
+
+// A node leads to node v, if the test says so. A row is lent on its own: behind two indices in a row no proof knows its length.
+fn mark_row(row: &mut [bool; NODES], v: u8, test: bool)
+    ensures { RowAdds row.old (λ b. test && eqb b v) row.new }
+{
+    row[v as usize] |= test;
 }
 
 // The first node leads to the second, if the test says so.
-fn mark(reach: &mut [bool; LINKS], u: u8, v: u8, test: bool)
-    requires { length reach.old ≡ matrix_size }
+fn mark(reach: &mut Matrix, u: u8, v: u8, test: bool)
     ensures { Adds reach.old (λ a b. test && (eqb a u && eqb b v)) reach.new }
 {
-    let at = NODES * (u as usize) + (v as usize);
-    reach[at] = reach[at] | test;
+    mark_row(&mut reach[u as usize], v, test);
 }
 
 // The links of one module.
-fn mark_module(reach: &mut [bool; LINKS], m: Module)
-    requires { length reach.old ≡ matrix_size }
+fn mark_module(reach: &mut Matrix, m: Module)
     ensures { Adds reach.old (links m) reach.new }
 {
     let used = level::inputs(m.kind);
@@ -47,112 +52,83 @@ fn mark_module(reach: &mut [bool; LINKS], m: Module)
     mark(reach, m.third, m.output, at_once & (2 < used));
 }
 
-// The links of the first n modules.
-fn mark_modules(reach: &mut [bool; LINKS], modules: [Module; MODULES], n: usize)
-    requires { (length reach.old ≡ matrix_size) × (n ≤ most_modules) }
-    ensures { Adds reach.old (links_below modules n) reach.new }
+// The links of all modules.
+fn mark_modules(reach: &mut Matrix, modules: &[Module])
+    ensures { Adds reach.old (links_below modules.now (length modules.now)) reach.new }
 {
-    let mut m: usize = 0;
-    while m < n {
-        mark_module(reach, modules[m]);
-        m += 1;
+    for m in modules {
+        mark_module(reach, *m);
     }
 }
 
-// Where node k leads.
-fn row_of(reach: &[bool; LINKS], k: usize) -> [bool; NODES]
+// A node leads where another does too. By index, since no proof knows what was written through a `zip` with `iter_mut`.
+fn join_row(row: &mut [bool; NODES], with: &[bool; NODES])
+    ensures { RowAdds row.old (λ v. get_or with.now v false) row.new }
+{
+    for (v, leads) in row.iter_mut().enumerate() {
+        *leads |= with[v];
+    }
+}
+
+// If a node leads to node k, it leads where that leads.
+fn join_over(row: &mut [bool; NODES], from_k: &[bool; NODES], k: usize)
     requires { k < most_nodes }
-    ensures { (v : ℕ) → v < most_nodes → get_or result v false ≡ entry reach.now k v }
+    ensures { RowAdds row.old (λ v. get_or row.old k false && get_or from_k.now v false) row.new }
 {
-    let from = NODES * k;
-    let mut row = [false; NODES];
-    let mut v: usize = 0;
-    while v < NODES {
-        row[v] = reach[from + v];
-        v += 1;
-    }
-    row
-}
-
-// Node u leads where the row says.
-fn join_row(reach: &mut [bool; LINKS], row: &[bool; NODES], u: usize)
-    requires { (length reach.old ≡ matrix_size) × (u < most_nodes) }
-    ensures { Adds reach.old (λ a v. eqb a u && get_or row.now v false) reach.new }
-{
-    let to = NODES * u;
-    let mut v: usize = 0;
-    while v < NODES {
-        reach[to + v] = reach[to + v] | row[v];
-        v += 1;
-    }
-}
-
-// If node u leads to node k, it leads where the row says.
-fn join_over(reach: &mut [bool; LINKS], row: &[bool; NODES], u: usize, k: usize)
-    requires { (length reach.old ≡ matrix_size) × (u < most_nodes) × (k < most_nodes) }
-    ensures { Adds reach.old (λ a v. eqb a u && (entry reach.old a k && get_or row.now v false))
-        reach.new }
-{
-    if reach[NODES * u + k] {
-        join_row(reach, row, u);
+    if row[k] {
+        join_row(row, from_k);
     }
 }
 
 // Every node that leads to node k leads where that leads.
-fn close_over(reach: &mut [bool; LINKS], k: usize)
-    requires { (length reach.old ≡ matrix_size) × (k < most_nodes) }
-    ensures { Adds reach.old (λ a v. entry reach.old a k && entry reach.old k v)
-        reach.new }
+fn close_over(reach: &mut Matrix, k: usize)
+    requires { k < most_nodes }
+    ensures { Adds reach.old (λ a v. entry reach.old a k && entry reach.old k v) reach.new }
 {
-    let row = row_of(reach, k);
-    let mut u: usize = 0;
-    while u < NODES {
-        join_over(reach, &row, u, k);
-        u += 1;
+    let from_k = reach[k];
+    for row in reach.iter_mut() {
+        join_over(row, &from_k, k);
     }
 }
 
 // Which node leads to which over nodes below n, from which is linked to which.
-fn close(reach: &mut [bool; LINKS], n: usize)
-    requires { (length reach.old ≡ matrix_size) × (n ≤ most_nodes) }
+fn close(reach: &mut Matrix, n: usize)
+    requires { n ≤ most_nodes }
     ensures { (S : Sheet) → Holds reach.old (leads S) → Holds reach.new (leads_over S n) }
 {
-    let mut k: usize = 0;
-    while k < n {
+    for k in 0..n {
         close_over(reach, k);
-        k += 1;
     }
 }
 
 // Which node leads to which over modules of delay 0. A row and a column stand there for every byte, whether a node or not.
-pub fn closure(reach: &mut [bool; LINKS], modules: [Module; MODULES], n: u16, nodes: u16)
-    ensures { (S : Sheet) → Network modules n nodes S → Holds reach.new (leads_over S (node_count S)) }
+// The matrix is lent, not returned, so that it stands on the stack once.
+pub fn closure(reach: &mut Matrix, modules: &[Module], nodes: u16)
+    ensures { (S : Sheet) → Network modules.now nodes S → Holds reach.new (leads_over S (node_count S)) }
 {
-    *reach = [false; LINKS];
-    mark_modules(reach, modules, cut(n) as usize);
-    close(reach, cut(nodes) as usize);
+    *reach = UNLINKED;
+    mark_modules(reach, cut(modules));
+    close(reach, nodes.min(MOST_NODES) as usize);
 }
 
-// The least node that leads to itself.
-pub fn least_on_loop(reach: &[bool; LINKS], nodes: u16) -> Answer
-    ensures { outcome_of result ≡ first (each (min nodes most_nodes) (diagonal_rows (entry reach.now))) }
+// The least node that leads to itself. A node stands for its row and for its column, so this goes by number.
+pub fn least_on_loop(reach: &Matrix, nodes: u16) -> Result<(), Refusal>
+    ensures { refusal_in result ≡ first (each (min nodes most_nodes) (diagonal_rows (entry reach.now))) }
 {
-    let n = cut(nodes) as usize;
-    let mut v: usize = 0;
-    while v < n {
-        if reach[NODES * v + v] {
-            return Answer::Refused(18, v as u32, 0);
+    for v in 0..nodes.min(MOST_NODES) {
+        let on_loop = reach[v as usize][v as usize];
+        if on_loop {
+            return Err(Refusal::Loop(u32::from(v)));
         }
-        v += 1;
     }
-    Answer::Ran(0)
+    Ok(())
 }
 
 // Refusal 18: a zero-delay loop.
-pub fn loop_refusal(modules: [Module; MODULES], n: u16, nodes: u16) -> Answer
-    ensures { (S : Sheet) → Network modules n nodes S → outcome_of result ≡ first (each (node_count S) (loop_rows S)) }
+pub fn loop_refusal(modules: &[Module], nodes: u16) -> Result<(), Refusal>
+    ensures { (S : Sheet) → Network modules.now nodes S → refusal_in result ≡ first (each (node_count S) (loop_rows S)) }
 {
-    let mut reach = [false; LINKS];
-    closure(&mut reach, modules, n, nodes);
+    let mut reach = UNLINKED;
+    closure(&mut reach, modules, nodes);
     least_on_loop(&reach, nodes)
 }

@@ -1,3 +1,3 @@
 -- The laws of this crate that belong to no one function.
-pub mod Events
 pub mod Begun
+pub mod Passed

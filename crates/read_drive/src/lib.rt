@@ -5,4 +5,4 @@ mod drive;
 mod event;
 mod first_events;
 
-pub use drive::{DriveRead, drive_section};
+pub use drive::drive_section;

@@ -1,4 +1,4 @@
 -- The laws of this crate that belong to no one function.
+pub mod Wiring
 pub mod ModuleRows
-pub mod Known
 pub mod StartRows

@@ -1,43 +1,39 @@
 // After the modules, each node's byte: an initial value for a driven node, and 4 for an input.
-ghost use Rattle.std.specs.Prelude.{false, ◌≡◌, ◌≤◌, get_or};
-ghost use Rattle.sheet.specs.Limits.{most_nodes};
+ghost use Rattle.std.specs.Prelude.{false, not, ◌&&◌, ◌||◌, ◌≡◌, ◌≤◌, eqb, ltb, get_or, length};
+ghost use Rattle.sheet.specs.Limits.{input_byte, most_nodes};
 ghost use Rattle.sheet.specs.Enumerate.{each};
-ghost use Rattle.sheet.specs.Outcome.{outcome_of};
 ghost use Rattle.sheet.specs.Refusal.{first};
+ghost use Rattle.sheet.specs.Told.{refusal_in};
 ghost use Rattle.read_modules.specs.Record.{byte_rows};
 
-use sheet::{Answer, INPUT, NODES};
+use sheet::{INPUT, NODES, Refusal};
 
-// The refusal met at a node: driven with byte 4, or undriven with 0 to 3.
-fn byte_refusal(v: u16, byte: u8, driven: bool) -> Answer
-    ensures { outcome_of result ≡ first (byte_rows v byte driven) }
+// Whether a node's byte is wrong: 4 where it is driven, or 0 to 3 where it is not.
+fn wrong_byte(byte: u8, driven: bool) -> bool
+    ensures { result ≡ (driven && eqb byte input_byte || not driven && ltb byte input_byte) }
 {
-    if driven {
-        if byte == INPUT {
-            return Answer::Refused(10, v as u32, 0);
-        }
-        return Answer::Ran(0);
+    if driven { byte == INPUT } else { byte < INPUT }
+}
+
+// The refusal met at a node.
+#[tactic(auto, unfolding(sheet::specs::Refusal::first))]
+fn byte_refusal(v: u32, byte: u8, driven: bool) -> Result<(), Refusal>
+    ensures { refusal_in result ≡ first (byte_rows v byte driven) }
+{
+    if wrong_byte(byte, driven) {
+        return Err(Refusal::NodeUse(v));
     }
-    if byte < INPUT {
-        return Answer::Refused(10, v as u32, 0);
-    }
-    Answer::Ran(0)
+    Ok(())
 }
 
 // The first refusal met at a node's byte.
-pub(crate) fn first_byte_refusal(nodes: &[u8; NODES], count: u16, driven: &[bool; NODES]) -> Answer
-    requires { count ≤ most_nodes }
-    ensures { outcome_of result
-        ≡ first (each count (λ v. byte_rows v (get_or nodes.now v 0) (get_or driven.now v false))) }
+pub(crate) fn first_byte_refusal(nodes: &[u8], driven: &[bool; NODES]) -> Result<(), Refusal>
+    requires { length nodes.now ≤ most_nodes }
+    ensures { refusal_in result
+        ≡ first (each (length nodes.now) (λ v. byte_rows v (get_or nodes.now v 0) (get_or driven.now v false))) }
 {
-    let mut v: u16 = 0;
-    while v < count {
-        let at = v as usize;
-        let a = byte_refusal(v, nodes[at], driven[at]);
-        let Answer::Ran(_) = a else {
-            return a;
-        };
-        v += 1;
+    for (v, byte) in nodes.iter().enumerate() {
+        byte_refusal(v as u32, *byte, driven[v])?;
     }
-    Answer::Ran(0)
+    Ok(())
 }

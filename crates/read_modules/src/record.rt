@@ -1,23 +1,21 @@
 // The refusals met in a module's record that was read whole.
 ghost use Rattle.std.specs.Prelude.{◌≡◌, leb, ltb, if◌then◌else◌};
-ghost use Rattle.sheet.specs.Outcome.{outcome_of};
 ghost use Rattle.sheet.specs.Refusal.{first, greatest_parameter, miswired};
+ghost use Rattle.sheet.specs.Told.{refusal_in};
 ghost use Rattle.read_modules.specs.Record.{record_rows};
 
 use level::{CONSTANT, MEMORY};
-use sheet::{Answer, LAST_VALUE, LONGEST_DELAY, Module};
+use sheet::{LAST_VALUE, LONGEST_DELAY, Module, Refusal};
 
-// The greatest parameter that a kind allows.
+// The greatest parameter that a kind allows. A kind stays a byte here, since `record_rows` tries any that stands in a record.
 fn greatest_parameter(kind: u8) -> u8
     ensures { result ≡ greatest_parameter kind }
 {
-    if kind == CONSTANT {
-        return LAST_VALUE;
+    match kind {
+        CONSTANT => LAST_VALUE,
+        MEMORY => 15,
+        _ => 0,
     }
-    if kind == MEMORY {
-        return 15;
-    }
-    0
 }
 
 // Whether an input is wrong: used and no node, or unused and not 0.
@@ -32,33 +30,28 @@ fn wrong_nodes(m: Module, nodes: u16) -> bool
     ensures { result ≡ miswired nodes m }
 {
     let n = level::inputs(m.kind);
-    if nodes <= m.output as u16 {
-        return true;
-    }
-    if wrong_input(0 < n, m.first, nodes) {
-        return true;
-    }
-    if wrong_input(1 < n, m.second, nodes) {
-        return true;
-    }
-    wrong_input(2 < n, m.third, nodes)
+    nodes <= m.output as u16
+        || wrong_input(0 < n, m.first, nodes)
+        || wrong_input(1 < n, m.second, nodes)
+        || wrong_input(2 < n, m.third, nodes)
 }
 
 // The refusal met in a record that stands at a place.
-pub(crate) fn record_refusal(m: Module, at: u32, greatest: u8, nodes: u16) -> Answer
-    ensures { outcome_of result ≡ first (record_rows greatest nodes at m) }
+#[tactic(auto, unfolding(sheet::specs::Refusal::first))]
+pub(crate) fn record_refusal(m: Module, at: u32, greatest: u8, nodes: u16) -> Result<(), Refusal>
+    ensures { refusal_in result ≡ first (record_rows greatest nodes at m) }
 {
     if greatest < m.kind {
-        return Answer::Refused(5, at, 0);
+        return Err(Refusal::Kind(at));
     }
     if greatest_parameter(m.kind) < m.parameter {
-        return Answer::Refused(6, at, 0);
+        return Err(Refusal::Parameter(at));
     }
     if wrong_nodes(m, nodes) {
-        return Answer::Refused(7, at, 0);
+        return Err(Refusal::Wiring(at));
     }
     if LONGEST_DELAY < m.delay {
-        return Answer::Refused(8, at, 0);
+        return Err(Refusal::Delay(at));
     }
-    Answer::Ran(0)
+    Ok(())
 }

@@ -5,6 +5,6 @@ mod count;
 mod nodes;
 mod watched;
 
-pub use count::{CountChecked, count_refusal};
-pub use nodes::{NodesRead, nodes_section};
-pub use watched::{WatchedRead, watched_section};
+pub use count::count_refusal;
+pub use nodes::nodes_section;
+pub use watched::watched_section;

@@ -1,2 +1,2 @@
--- What is known of a sheet once its first sections are read.
+-- What is known of a sheet once it is read.
 pub mod Read

@@ -4,71 +4,26 @@
 
 mod sections;
 
-ghost use Rattle.std.specs.Prelude.{◌≡◌, ◌+◌, ◌<◌};
-ghost use Rattle.sheet.specs.Outcome.{outcome_of};
-ghost use Rattle.reader.specs.Read.{ReadTo, WholeRead};
+ghost use Rattle.sheet.specs.Refusal.{bytes_rows};
+ghost use Rattle.sheet.specs.Told.{Told};
+ghost use Rattle.reader.specs.Read.{SheetHeld};
 
-use crate::sections::{DRIVE, MODULES, NODES, Reading, WATCHED};
-use sheet::{Answer, Contents, Edition};
+use crate::sections::SheetReader;
+use sheet::{Contents, Edition, Refusal};
 
-// The lent bytes, and the offset of the section to be read next.
-#[derive(Drop)]
-pub(crate) struct SheetReader<'a> {
-    pub bytes: &'a [u8],
-    pub at: u32,
-}
-
-// What is known once a section is read, and the reader past it.
-#[derive(Drop)]
-pub(crate) struct Section<'a> {
-    pub reading: Reading,
-    pub rest: SheetReader<'a>,
-}
-
-// Reads the section of a number at the reader's offset.
-fn read_section<'a>(reader: SheetReader<'a>, which: u8, known: Reading) -> Section<'a>
-    requires { ReadTo known.strict known.edition reader.bytes.now which known × (known.at ≡ reader.at) × (which < 4) }
-    ensures { ReadTo known.strict known.edition reader.entry.bytes.now (which + 1) result.reading × (result.rest.bytes ≡ reader.entry.bytes)
-        × (result.reading.at ≡ result.rest.at) }
+// Reads a sheet of an edition, strictly or not, whatever its bytes are: what it holds, or the first refusal met in its bytes, 2 to 17.
+pub fn read_sheet(strict: bool, e: Edition, bytes: &[u8]) -> Result<Contents, Refusal>
+    ensures { Told (bytes_rows strict e bytes.now) (SheetHeld e bytes.now) result }
 {
-    let bytes = reader.bytes;
-    let reading = sections::read(bytes, reader.at, which, known);
-    let at = reading.at;
-    Section {
-        reading,
-        rest: SheetReader { bytes, at },
-    }
-}
-
-// Reads the four sections in their order.
-fn read_sections(bytes: &[u8], known: Reading) -> Reading
-    requires { ReadTo known.strict known.edition bytes.now 0 known × (known.at ≡ 0) }
-    ensures { ReadTo known.strict known.edition bytes.now 4 result }
-{
-    let nodes = read_section(SheetReader { bytes, at: 0 }, NODES, known);
-    let modules = read_section(nodes.rest, MODULES, nodes.reading);
-    let drive = read_section(modules.rest, DRIVE, modules.reading);
-    let watched = read_section(drive.rest, WATCHED, drive.reading);
-    watched.reading
-}
-
-// The first refusal met in a sheet's bytes, 2 to 17; Ran(0) without one, and then what the sheet holds.
-#[derive(Drop)]
-pub struct SheetRead {
-    pub answer: Answer,
-    pub contents: Contents,
-}
-
-// Reads a sheet of an edition, strictly or not, whatever its bytes are.
-pub fn read_sheet(strict: bool, e: Edition, bytes: &[u8]) -> SheetRead
-    ensures { WholeRead strict e bytes.now (outcome_of result.answer) result.contents }
-{
-    let read = read_sections(bytes, sections::unread(strict, e));
-    let answer = read.answer;
-    let Answer::Ran(_) = answer else {
-        let contents = sections::no_contents();
-        return SheetRead { answer, contents };
-    };
-    let contents = read.contents;
-    SheetRead { answer, contents }
+    let mut reader = SheetReader { bytes, at: 0 };
+    let nodes = reader.nodes()?;
+    let read = reader.modules(e, &nodes)?;
+    let drive = reader.drive(strict, e, nodes.count, &read.driven)?;
+    let watched = reader.watched(e, nodes.count)?;
+    Ok(Contents {
+        nodes,
+        modules: read.modules,
+        drive,
+        watched,
+    })
 }

@@ -1,178 +1,82 @@
-// What is read of a sheet, section by section, each after its count.
-ghost use Rattle.std.specs.Prelude.{List, ◌≡◌, ℕ, ◌+◌, ◌<◌};
-ghost use Rattle.sheet.specs.Contents.{Holds, no_sheet};
-ghost use Rattle.reader.specs.Read.{Due, ReadTo};
+// The sheet reader: each section is read at the offset, which then moves on past it.
+ghost use Rattle.std.specs.Prelude.{◌≡◌, ◌≤◌};
+ghost use Rattle.sheet.specs.Flags.{Flags};
+ghost use Rattle.sheet.specs.Layout.{nodes_counted, node_at, modules_place, drive_place, events_counted, event_at};
+ghost use Rattle.sheet.specs.Layout.{watched_place, watched_counted, watched_at, sheet_of};
+ghost use Rattle.sheet.specs.Limits.{most_nodes};
+ghost use Rattle.sheet.specs.Refusal.{nodes_section};
+ghost use Rattle.sheet.specs.Sections.{rows_of_modules, rows_of_drive, rows_of_watched, SectionRead};
+ghost use Rattle.sheet.specs.Sheet.{no_event};
+ghost use Rattle.sheet.specs.Told.{Told};
+ghost use Rattle.sheet.specs.Wiring.{is_driven};
+ghost use Rattle.read_modules.specs.Read.{ModulesKnown};
 
-use sheet::{Answer, COUNT_SIZE, Contents, Counts, EVENT_SIZE, Edition};
+use read_modules::ModulesRead;
+use sheet::{COUNT_SIZE, EVENT_SIZE, EVENTS, Edition, Event, NODES, Refusal, Section, WATCHED};
 
-// The sections' numbers, in their order.
-pub(crate) const NODES: u8 = 0;
-
-pub(crate) const MODULES: u8 = 1;
-
-pub(crate) const DRIVE: u8 = 2;
-
-pub(crate) const WATCHED: u8 = 3;
-
-// What is known of a sheet once its first sections are read.
+// The lent bytes, and the offset of the section to be read next.
 #[derive(Drop)]
-pub(crate) struct Reading {
-    // The place after them.
+pub(crate) struct SheetReader<'a> {
+    pub bytes: &'a [u8],
     pub at: u32,
-    // The first refusal met in them; Ran(0) without one.
-    pub answer: Answer,
-    // Whether inputs without an event at tick 0 are refused.
-    pub strict: bool,
-    pub edition: Edition,
-    // Whether a module drives a node.
-    pub driven: [bool; sheet::NODES],
-    pub contents: Contents,
 }
 
-// What stands where nothing is read.
-pub(crate) fn no_contents() -> Contents
-    ensures { Holds no_sheet result }
-{
-    Contents {
-        counts: Counts {
-            nodes: 0,
-            modules: 0,
-            events: 0,
-            watched: 0,
-        },
-        nodes: [0; sheet::NODES],
-        modules: [sheet::NO_MODULE; sheet::MODULES],
-        drive: [sheet::NO_EVENT; sheet::EVENTS],
-        watched: [0; sheet::WATCHED],
+impl SheetReader<'_> {
+    pub(crate) fn nodes(&mut self) -> Result<Section<u8, NODES>, Refusal>
+        requires { self.old.at ≡ 0 }
+        ensures read { let s = self.old.bytes.now in
+            Told (nodes_section s) (λ nodes. SectionRead 0 (nodes_counted s) (node_at s) nodes × (self.new.at ≡ modules_place s)) result }
+        ensures lent { self.new.bytes ≡ self.old.bytes }
+    {
+        let nodes = read_nodes::nodes_section(self.bytes, self.at)?;
+        self.at += COUNT_SIZE + (nodes.count as u32);
+        Ok(nodes)
     }
-}
 
-// What is known before the first section is read.
-pub(crate) fn unread(strict: bool, edition: Edition) -> Reading
-    ensures { (result.at ≡ 0) × (result.strict ≡ strict) × (result.edition ≡ edition) × ((s : List ℕ) → ReadTo strict edition s 0 result) }
-{
-    let contents = no_contents();
-    Reading {
-        at: 0,
-        answer: Answer::Ran(0),
-        strict,
-        edition,
-        driven: [false; sheet::NODES],
-        contents,
+    pub(crate) fn modules(
+        &mut self,
+        e: Edition,
+        nodes: &Section<u8, NODES>,
+    ) -> Result<ModulesRead, Refusal>
+        requires { let s = self.old.bytes.now in (self.old.at ≡ modules_place s) × SectionRead 0 (nodes_counted s) (node_at s) nodes.now }
+        ensures read { let s = self.old.bytes.now in
+            Told (rows_of_modules e s) (λ read. ModulesKnown e s read × (self.new.at ≡ drive_place e s) × (self.new.at ≤ 65600)) result }
+        ensures lent { self.new.bytes ≡ self.old.bytes }
+    {
+        let read = read_modules::modules_section(e, self.bytes, self.at, nodes)?;
+        self.at = read.end;
+        Ok(read)
     }
-}
 
-// Each section is read at its place, where no refusal was met before: its answer, and its records.
-fn with_nodes(s: &[u8], at: u32, known: Reading) -> Reading
-    requires { Due s.now 0 known at }
-    ensures { ReadTo known.strict known.edition s.now 1 result }
-{
-    let strict = known.strict;
-    let edition = known.edition;
-    let driven = known.driven;
-    let mut contents = known.contents;
-    let section = read_nodes::nodes_section(s, at);
-    let answer = section.answer;
-    let nodes = section.nodes;
-    contents.counts.nodes = section.count;
-    contents.nodes = nodes;
-    Reading {
-        at: at + COUNT_SIZE + (section.count as u32),
-        answer,
-        strict,
-        edition,
-        driven,
-        contents,
+    pub(crate) fn drive(
+        &mut self,
+        strict: bool,
+        e: Edition,
+        nodes: u16,
+        driven: &[bool; NODES],
+    ) -> Result<Section<Event, EVENTS>, Refusal>
+        requires { let s = self.old.bytes.now in (self.old.at ≡ drive_place e s) × (self.old.at ≤ 65600) × (nodes ≡ nodes_counted s)
+            × (nodes ≤ most_nodes) × Flags driven.now (is_driven (sheet_of e s)) }
+        ensures read { let s = self.old.bytes.now in Told (rows_of_drive strict e s)
+            (λ drive. SectionRead no_event (events_counted e s) (event_at e s) drive
+            × (self.new.at ≡ watched_place e s) × (self.new.at ≤ 100000)) result }
+        ensures lent { self.new.bytes ≡ self.old.bytes }
+    {
+        let drive = read_drive::drive_section(strict, e, self.bytes, self.at, nodes, driven)?;
+        self.at += COUNT_SIZE + EVENT_SIZE * (drive.count as u32);
+        Ok(drive)
     }
-}
 
-fn with_modules(s: &[u8], at: u32, known: Reading) -> Reading
-    requires { Due s.now 1 known at }
-    ensures { ReadTo known.strict known.edition s.now 2 result }
-{
-    let strict = known.strict;
-    let edition = known.edition;
-    let mut contents = known.contents;
-    let nodes = contents.nodes;
-    let section = read_modules::modules_section(edition, s, at, contents.counts.nodes, &nodes);
-    let answer = section.answer;
-    let modules = section.modules;
-    let driven = section.driven;
-    contents.counts.modules = section.count;
-    contents.modules = modules;
-    Reading {
-        at: section.end,
-        answer,
-        strict,
-        edition,
-        driven,
-        contents,
+    // The last section, after which nothing is read.
+    pub(crate) fn watched(
+        &mut self,
+        e: Edition,
+        nodes: u16,
+    ) -> Result<Section<u8, WATCHED>, Refusal>
+        requires { let s = self.old.bytes.now in (self.old.at ≡ watched_place e s) × (self.old.at ≤ 100000) × (nodes ≡ nodes_counted s) }
+        ensures { let s = self.old.bytes.now in
+            Told (rows_of_watched e s) (SectionRead 0 (watched_counted e s) (watched_at e s)) result }
+    {
+        read_nodes::watched_section(e, self.bytes, self.at, nodes)
     }
-}
-
-fn with_drive(s: &[u8], at: u32, known: Reading) -> Reading
-    requires { Due s.now 2 known at }
-    ensures { ReadTo known.strict known.edition s.now 3 result }
-{
-    let strict = known.strict;
-    let edition = known.edition;
-    let driven = known.driven;
-    let mut contents = known.contents;
-    let section = read_drive::drive_section(strict, edition, s, at, contents.counts.nodes, &driven);
-    let answer = section.answer;
-    let drive = section.drive;
-    contents.counts.events = section.count;
-    contents.drive = drive;
-    Reading {
-        at: at + COUNT_SIZE + EVENT_SIZE * (section.count as u32),
-        answer,
-        strict,
-        edition,
-        driven,
-        contents,
-    }
-}
-
-fn with_watched(s: &[u8], at: u32, known: Reading) -> Reading
-    requires { Due s.now 3 known at }
-    ensures { ReadTo known.strict known.edition s.now 4 result }
-{
-    let strict = known.strict;
-    let edition = known.edition;
-    let driven = known.driven;
-    let mut contents = known.contents;
-    let section = read_nodes::watched_section(edition, s, at, contents.counts.nodes);
-    let answer = section.answer;
-    let watched = section.watched;
-    contents.counts.watched = section.count;
-    contents.watched = watched;
-    Reading {
-        at: at + COUNT_SIZE + (section.count as u32),
-        answer,
-        strict,
-        edition,
-        driven,
-        contents,
-    }
-}
-
-// Reads the section of a number at its place. A refusal met before stands.
-pub(crate) fn read(s: &[u8], at: u32, which: u8, known: Reading) -> Reading
-    requires { ReadTo known.strict known.edition s.now which known × (known.at ≡ at) × (which < 4) }
-    ensures { ReadTo known.strict known.edition s.now (which + 1) result }
-{
-    let a = known.answer;
-    let Answer::Ran(_) = a else {
-        return known;
-    };
-    if which == NODES {
-        return with_nodes(s, at, known);
-    }
-    if which == MODULES {
-        return with_modules(s, at, known);
-    }
-    if which == DRIVE {
-        return with_drive(s, at, known);
-    }
-    with_watched(s, at, known)
 }

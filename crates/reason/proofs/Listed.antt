@@ -2,7 +2,8 @@
 use mathlib.Core.Bool.{true, false, and-false}
 use mathlib.Core.Path.{◌≡◌}
 use Prim.Native.Nat.{ℕ, ◌<◌, ◌≤◌}
-use borrow.Author.Tests.{lt-leb}
+use native.Mathlib.Omega.{arith}
+use borrow.Author.Tests.{lt-leb, le-leb, lt-ltb}
 use lib.Dec.{T, leb, ltb, leb→le, ltb→lt}
 use lib.Ieee.Fits.{and_l, and_r}
 use lib.ListN.{length}
@@ -16,3 +17,6 @@ listed-is n e =
 
 pub above_listed : (n : ℕ) → length phrases < n → is_listed n ≡ false
 above_listed n h = rw (lt-leb n (length phrases) h, and-false)
+
+pub is-listed : (n : ℕ) → (n ≡ 0 → ⊥) → n ≤ length phrases → is_listed n ≡ true
+is-listed n some most = rw (lt-ltb 0 n (omega arith), le-leb n (length phrases) most)

@@ -1,7 +1,6 @@
 -- The modules' records in an order.
-use Rattle.std.specs.Prelude.{List, ◌++◌, map, ◌≡◌, ℕ, length, get_or, take, drop}
+use Rattle.std.specs.Prelude.{List, ◌++◌, map, ℕ, get_or, take, drop}
 use Rattle.sheet.specs.declared.Module.{Module}
-use Rattle.sheet.specs.Limits.{most_modules}
 use Rattle.sheet.specs.Sheet.{no_module}
 
 abbrev pub record_at : List Module → ℕ → Module
@@ -14,8 +13,3 @@ in_order records order = map (record_at records) order
 -- the first n records in the order, and the rest as they are
 abbrev pub first_in_order : List Module → List ℕ → ℕ → List Module
 first_in_order records order n = in_order records (take n order) ++ drop n records
-
--- the same of an order for as many records as there may be
-pub record Ordered (records : List Module) (order : List ℕ) (n : ℕ) (result : List Module) : Type 0 where
-  pub size : length order ≡ most_modules
-  pub stands : result ≡ first_in_order records order n

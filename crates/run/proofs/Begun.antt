@@ -8,37 +8,38 @@ use native.Mathlib.Omega.{arith}
 use lib.Dec.{eqb, ltb}
 use lib.ListN.{length}
 use Rattle.std.specs.Prelude.{if◌then◌else◌}
-use Rattle.sheet.specs.declared.Answer.{Answer}
-use Rattle.sheet.specs.declared.Answer.TheVariants.{Ran, Refused}
+use Rattle.sheet.specs.declared.refusal.Refusal.{Refusal}
 use Rattle.sheet.specs.declared.Edition.{Edition}
 use Rattle.sheet.specs.Limits.{greatest_horizon}
 use Rattle.sheet.specs.Layout.{sheet_of}
-use Rattle.sheet.specs.Outcome.{Outcome, finished, refused, outcome_of}
+use Rattle.sheet.specs.Outcome.{Outcome, finished, refused}
 use Rattle.sheet.specs.Range.{horizon_answer}
-use Rattle.sheet.specs.Refusal.{checked}
-use Rattle.sheet.proofs.Rows.{finished≢refused}
+use Rattle.sheet.specs.Refusal.{bytes_rows, loops_section, rows, first, checked_by, checked}
+use Rattle.sheet.specs.Told.{as_refused}
+use Rattle.sheet.proofs.Rows.{passed_append, finished≢refused}
 use Rattle.sheet.proofs.Tests.{fails, tells_lt, tells_eq, tells_or, at_most}
+use Rattle.sheet.proofs.Told.{is_refused, not_finished, stopped}
 use Rattle.network.specs.Buffer.{buffer_after}
 use Rattle.network.specs.Run.{wrote, is_horizon_outside, ran, ran_sheet, Leaves, RunLeaves}
 use Rattle.network.proofs.Runs.{ran-outside, ran_refused, ran_sheet_lem}
 use Rattle.listing.proofs.Buffer.{buffer-none}
 
--- a horizon in its range
-pub within : (horizon : ℕ) → is_horizon_outside horizon ≡ false → (0 < horizon) × (horizon ≤ greatest_horizon)
-within horizon range =
-    let out = (fails (is_horizon_outside horizon) (tells_or (eqb horizon 0) (ltb greatest_horizon horizon) (tells_eq horizon 0) (tells_lt greatest_horizon horizon))).0 range in
-    let some : horizon ≡ 0 → ⊥ = λ e. out (inl e) in
-    (omega (arith, some), at_most (λ h. out (inr h)))
-
 abbrev answer_if : Bool → Outcome
 answer_if out = if out then refused 1 0 0 else finished 0
 
-pub range_passed : (horizon : ℕ) (a : Answer) → outcome_of a ≡ horizon_answer horizon → {k : ℕ} → a ≡ Ran k → is_horizon_outside horizon ≡ false
-range_passed horizon a e told = by (is_horizon_outside horizon) refl
+-- a horizon that passes is in its range
+in_range : (horizon : ℕ) → finished 0 ≡ horizon_answer horizon → is_horizon_outside horizon ≡ false
+in_range horizon e = by (is_horizon_outside horizon) refl
   where
     by : (b : Bool) → is_horizon_outside horizon ≡ b → is_horizon_outside horizon ≡ false
-    by true out = absurd (finished≢refused (sym (ap outcome_of told) ∙ e ∙ ap answer_if out))
+    by true out = absurd (finished≢refused (e ∙ ap answer_if out))
     by false range = range
+
+pub within : (horizon : ℕ) → finished 0 ≡ horizon_answer horizon → (0 < horizon) × (horizon ≤ greatest_horizon)
+within horizon e =
+    let out = (fails (is_horizon_outside horizon) (tells_or (eqb horizon 0) (ltb greatest_horizon horizon) (tells_eq horizon 0) (tells_lt greatest_horizon horizon))).0 (in_range horizon e) in
+    let some : horizon ≡ 0 → ⊥ = λ e. out (inl e) in
+    (omega (arith, some), at_most (λ h. out (inr h)))
 
 module _ (E : Edition) (s : List ℕ) (horizon : ℕ) (buffer : List ℕ) where
   -- the run answers so and leaves the buffer as it is
@@ -46,20 +47,30 @@ module _ (E : Edition) (s : List ℕ) (horizon : ℕ) (buffer : List ℕ) where
   nothing_written o e = record { answered = sym (ap (λ w. w.answer) e); left = sym (ap (λ w. buffer_after w.records buffer) e ∙ buffer-none buffer) }
 
   -- a horizon that is refused
-  pub range_refused : (a : Answer) → outcome_of a ≡ horizon_answer horizon → {n p k : ℕ} → a ≡ Refused n p k → RunLeaves E s horizon buffer (outcome_of a) buffer
-  range_refused a e told = by (is_horizon_outside horizon) refl
+  pub range_refused : (r : Refusal) → as_refused r ≡ horizon_answer horizon → RunLeaves E s horizon buffer (as_refused r) buffer
+  range_refused r e = by (is_horizon_outside horizon) refl
     where
-      by : (b : Bool) → is_horizon_outside horizon ≡ b → RunLeaves E s horizon buffer (outcome_of a) buffer
-      by true out = nothing_written (outcome_of a) (ran-outside E s horizon (length buffer) out ∙ ap (λ o. wrote o []) (sym (e ∙ ap answer_if out)))
-      by false range = absurd (finished≢refused (sym (e ∙ ap answer_if range) ∙ ap outcome_of told))
+      by : (b : Bool) → is_horizon_outside horizon ≡ b → RunLeaves E s horizon buffer (as_refused r) buffer
+      by true out = nothing_written (as_refused r) (ran-outside E s horizon (length buffer) out ∙ ap (λ o. wrote o []) (sym (e ∙ ap answer_if out)))
+      by false range = absurd (not_finished r (sym (e ∙ ap answer_if range)))
 
-  module _ (range : is_horizon_outside horizon ≡ false) where
+  module _ (passed : finished 0 ≡ horizon_answer horizon) where
     -- a sheet that is refused
-    pub not_accepted : (a : Answer) → outcome_of a ≡ checked E s → {n p k : ℕ} → a ≡ Refused n p k → RunLeaves E s horizon buffer (outcome_of a) buffer
-    not_accepted a e told =
-        let o = ap outcome_of told in
-        nothing_written (outcome_of a) (ran_refused E s horizon (length buffer) range (sym e ∙ o) ∙ ap (λ x. wrote x []) (sym o))
+    pub not_accepted : (r : Refusal) → checked E s ≡ as_refused r → RunLeaves E s horizon buffer (as_refused r) buffer
+    not_accepted r e =
+        let h = is_refused r in
+        nothing_written (as_refused r) (ran_refused E s horizon (length buffer) (in_range horizon passed) (e ∙ h.3) ∙ ap (λ o. wrote o []) (sym h.3))
 
     -- one that is accepted
     pub accepted_leaves : checked E s ≡ finished 0 → {o : Outcome} {after : List ℕ} → Leaves (ran_sheet (sheet_of E s) horizon (length buffer)) buffer o after → RunLeaves E s horizon buffer o after
-    accepted_leaves ok {o} {after} l = subst (λ w. Leaves w buffer o after) (sym (ran_sheet_lem E s horizon (length buffer) range ok)) l
+    accepted_leaves ok {o} {after} l = subst (λ w. Leaves w buffer o after) (sym (ran_sheet_lem E s horizon (length buffer) (in_range horizon passed) ok)) l
+
+-- the check meets the bytes' refusals first, and then a zero-delay loop
+module _ (E : Edition) (s : List ℕ) where
+  pub bytes_refused : (r : Refusal) → first (bytes_rows false E s) ≡ as_refused r → checked E s ≡ as_refused r
+  unfolding checked_by rows
+  bytes_refused r e = stopped r (bytes_rows false E s) (loops_section (sheet_of E s)) e
+
+  pub loops_checked : first (bytes_rows false E s) ≡ finished 0 → checked E s ≡ first (loops_section (sheet_of E s))
+  unfolding checked_by rows
+  loops_checked e = passed_append (bytes_rows false E s) (loops_section (sheet_of E s)) e

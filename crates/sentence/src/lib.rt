@@ -5,53 +5,53 @@ ghost use Rattle.std.specs.Prelude.{◌≡◌, length};
 ghost use Rattle.sheet.specs.Outcome.{finished, refused, outcome_of};
 ghost use Rattle.sentence.specs.Sentence.{sentence};
 ghost use Rattle.sentence.specs.Describing.{Describes};
-ghost use Rattle.lent.specs.Lent.{Prints};
+ghost use Rattle.lent.specs.Lent.{Puts};
 
-use lent::{put_all, put_decimal};
+use lent::Writer;
 use reason::put_reason;
-use sheet::Answer;
-
-// The refusal of a text buffer that is shorter than the sentence.
-const TEXT_SHORT: u32 = 21;
+use sheet::{Answer, Refusal};
 
 // Every sentence has at most so many bytes.
 const LONGEST: usize = 200;
 
 // Puts a finished call's sentence.
-fn put_finished(text: &mut [u8], at: usize, count: u32) -> usize
-    ensures { Prints (sentence (finished count)) text.old at text.new result }
+fn put_finished(out: &mut Writer, count: u32)
+    ensures { Puts (sentence (finished count)) out.old out.new }
 {
-    let to = put_all(text, at, b"finished, with a count of ");
-    put_decimal(text, to, count)
+    out.put_all(b"finished, with a count of ");
+    out.put_decimal(count);
 }
 
 // Puts a refusal's sentence.
-fn put_refused(text: &mut [u8], at: usize, number: u32, place: u32, count: u32) -> usize
-    ensures { Prints (sentence (refused number place count)) text.old at text.new result }
+fn put_refused(out: &mut Writer, number: u32, place: u32, records: u32)
+    ensures { Puts (sentence (refused number place records)) out.old out.new }
 {
-    let first = put_all(text, at, b"refused: ");
-    let second = put_reason(text, first, number);
-    let third = put_decimal(text, second, place);
-    let last = put_all(text, third, b"; records written: ");
-    put_decimal(text, last, count)
+    out.put_all(b"refused: ");
+    put_reason(out, number);
+    out.put_decimal(place);
+    out.put_all(b"; records written: ");
+    out.put_decimal(records);
 }
 
-// Puts an answer's sentence. Answers the place after it; what does not fit is cut off.
-pub fn put_sentence(text: &mut [u8], at: usize, answer: Answer) -> usize
-    ensures { Prints (sentence (outcome_of answer)) text.old at text.new result }
+// Puts an answer's sentence; what does not fit is cut off.
+pub fn put_sentence(out: &mut Writer, answer: Answer)
+    ensures { Puts (sentence (outcome_of answer)) out.old out.new }
 {
     match answer {
-        Answer::Ran(count) => put_finished(text, at, count),
-        Answer::Refused(number, place, count) => put_refused(text, at, number, place, count),
+        Answer::Ran(count) => put_finished(out, count),
+        Answer::Refused(number, place, records) => put_refused(out, number, place, records),
     }
 }
 
-// The bytes of an answer's sentence.
+// The bytes of an answer's sentence, measured in an array of its own: there is no heap, and `Describes` leaves a text that is too short as it
+// was.
 fn sentence_length(answer: Answer) -> u32
     ensures { result ≡ length (sentence (outcome_of answer)) }
 {
-    let mut measured = [0u8; LONGEST];
-    put_sentence(&mut measured, 0, answer) as u32
+    let mut room = [0u8; LONGEST];
+    let mut out = Writer::new(&mut room);
+    put_sentence(&mut out, answer);
+    out.at as u32
 }
 
 // Describes an answer in a lent text: a finished call with the sentence's length, the sentence first in the text and bytes past it
@@ -61,8 +61,8 @@ pub fn describe(answer: Answer, text: &mut [u8]) -> Answer
 {
     let needed = sentence_length(answer);
     if text.len() < (needed as usize) {
-        return Answer::Refused(TEXT_SHORT, needed, 0);
+        return Answer::from(Refusal::TextShort(needed));
     }
-    put_sentence(text, 0, answer);
+    put_sentence(&mut Writer::new(text), answer);
     Answer::Ran(needed)
 }

@@ -4,7 +4,7 @@ use mathlib.Core.Path.{◌≡◌, refl, ap, ◌∙◌}
 use Prim.Native.Nat.{ℕ, ◌-◌}
 use lib.ListN.{length, take, replicate}
 use lib.Seq.{take_at}
-use Rattle.sheet.specs.declared.Contents.{Contents}
+use Rattle.sheet.specs.declared.contents.Contents.{Contents}
 use Rattle.sheet.specs.Limits.{most_nodes, most_modules, most_events, most_watched}
 use Rattle.sheet.specs.Sheet.{Sheet, no_module, no_event}
 use Rattle.sheet.specs.Contents.{filled, Holds, held_sheet}
@@ -18,8 +18,8 @@ unfolding held_sheet
 held_is S c h =
     λ i.
     record {
-      nodes = (ap (take c.counts.nodes) h.nodes ∙ take-filled most_nodes 0 S.nodes c.counts.nodes h.counts_nodes) i;
-      modules = (ap (take c.counts.modules) h.modules ∙ take-filled most_modules no_module S.modules c.counts.modules h.counts_modules) i;
-      drive = (ap (take c.counts.events) h.drive ∙ take-filled most_events no_event S.drive c.counts.events h.counts_events) i;
-      watched = (ap (take c.counts.watched) h.watched ∙ take-filled most_watched 0 S.watched c.counts.watched h.counts_watched) i;
+      nodes = (ap (take c.nodes.count) h.nodes ∙ take-filled most_nodes 0 S.nodes c.nodes.count h.counts_nodes) i;
+      modules = (ap (take c.modules.count) h.modules ∙ take-filled most_modules no_module S.modules c.modules.count h.counts_modules) i;
+      drive = (ap (take c.drive.count) h.drive ∙ take-filled most_events no_event S.drive c.drive.count h.counts_events) i;
+      watched = (ap (take c.watched.count) h.watched ∙ take-filled most_watched 0 S.watched c.watched.count h.counts_watched) i;
     }

@@ -8,4 +8,5 @@ pub mod Listed
 pub mod Parts
 pub mod Held
 pub mod Rows
+pub mod Told
 pub mod Read

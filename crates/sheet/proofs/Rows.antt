@@ -10,10 +10,8 @@ use native.Mathlib.Nat.{not-suc-le-zero}
 use native.Mathlib.Numerals.{add-one}
 use native.Mathlib.Omega.{arith}
 use Rattle.std.specs.Prelude.{if◌then◌else◌}
-use Rattle.sheet.specs.declared.Answer.{Answer}
-use Rattle.sheet.specs.declared.Answer.TheVariants.{Ran, Refused}
 use Rattle.sheet.specs.Enumerate.{each}
-use Rattle.sheet.specs.Outcome.{Outcome, finished, refused, or_else, outcome_of}
+use Rattle.sheet.specs.Outcome.{finished, refused, or_else}
 use Rattle.sheet.specs.Refusal.{Row, first}
 use Rattle.sheet.proofs.Each.{each-mem}
 
@@ -89,22 +87,11 @@ passed_append xs ys h = first-append xs ys ∙ ap (λ o. or_else o (first ys)) h
 pub refused_append : {n p k : ℕ} (xs ys : List Row) → first xs ≡ refused n p k → first (xs ++ ys) ≡ refused n p k
 refused_append xs ys h = first-append xs ys ∙ ap (λ o. or_else o (first ys)) h
 
--- What an answer says of the rows that it was told of: it goes on, or it stands for all rows that begin so.
-module _ (xs : List Row) (a : Answer) (told : outcome_of a ≡ first xs) where
-  pub passed : (n : ℕ) → a ≡ Ran n → first xs ≡ finished 0
-  passed n e = count_0 xs n (sym told ∙ ap outcome_of e)
-
-  pub stopped : (n p k : ℕ) → a ≡ Refused n p k → (ys : List Row) → outcome_of a ≡ first (xs ++ ys)
-  stopped n p k e ys = ap outcome_of e ∙ sym (refused_append xs ys (sym told ∙ ap outcome_of e))
-
 -- where rows in a row are passed, so is each part
 pub both_passed : (xs ys : List Row) → first (xs ++ ys) ≡ finished 0 → (first xs ≡ finished 0) × (first ys ≡ finished 0)
 both_passed xs ys h =
     let clear = (first_clear (xs ++ ys)).0 h in
     ((first_clear xs).1 (λ r m. clear r (Memᴰ.append_left ys m)), (first_clear ys).1 (λ r m. clear r (Memᴰ.append_right xs m)))
-
-pub went_on : (xs ys : List Row) (a : Answer) → outcome_of a ≡ first xs → (n : ℕ) → a ≡ Ran n → (o : Outcome) → o ≡ first ys → o ≡ first (xs ++ ys)
-went_on xs ys a told n e o later = later ∙ sym (passed_append xs ys (passed xs a told n e))
 
 -- the same over records, each with its rows
 module _ (f : ℕ → List Row) where
@@ -128,7 +115,3 @@ module _ (f : ℕ → List Row) where
       go : Dec (i ≡ n) → (i < n → first (each n f) ≡ refused m p q) → first (each n f ++ f n) ≡ refused m p q
       go (yes e) before = rw (← e) (passed_append (each i f) (f i) c ∙ g)
       go (no ne) before = refused_append (each n f) (f n) (before (omega arith))
-
-  pub stopped_each : (i n : ℕ) → i < n → first (each i f) ≡ finished 0
-      → (a : Answer) → outcome_of a ≡ first (f i) → (m p q : ℕ) → a ≡ Refused m p q → outcome_of a ≡ first (each n f)
-  stopped_each i n h c a told m p q e = ap outcome_of e ∙ sym (refused_each i n h c (sym told ∙ ap outcome_of e))

@@ -13,5 +13,6 @@ pub mod Range
 pub mod Contents
 pub mod Reading
 pub mod Refusal
+pub mod Told
 pub mod Sections
 pub mod Flags

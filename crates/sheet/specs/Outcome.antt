@@ -1,8 +1,8 @@
 -- Document 01, "Where each refusal is met": an answer is either a finished run with its count, or a refusal with its number,
 -- place and count of records written.
 use Rattle.std.specs.Prelude.{List, [], ◌∷◌, ℕ, eqb, if◌then◌else◌}
-use Rattle.sheet.specs.declared.Answer.{Answer}
-use Rattle.sheet.specs.declared.Answer.TheVariants.{Ran, Refused}
+use Rattle.sheet.specs.declared.refusal.Answer.{Answer}
+use Rattle.sheet.specs.declared.refusal.Answer.TheVariants.{Ran, Refused}
 
 pub data Outcome : Type 0 where
   finished : ℕ → Outcome

@@ -1,21 +1,23 @@
--- Document 01: the sheet is read front to back. What stands at a place: the whole of a count or record, or bytes that end inside it.
-use Rattle.std.specs.Prelude.{List, ℕ, if◌then◌else◌}
+-- Document 01: the sheet is read front to back. What stands at a place: a count or record, and none where the bytes end inside it.
+use Rattle.std.specs.Prelude.{List, ℕ, Option, None, Some, if◌then◌else◌}
 use Rattle.sheet.specs.declared.Edition.{Edition}
-use Rattle.sheet.specs.declared.CountRead.{CountRead}
-use Rattle.sheet.specs.declared.NodeRead.{NodeRead}
-use Rattle.sheet.specs.declared.ModuleRead.{ModuleRead}
-use Rattle.sheet.specs.declared.EventRead.{EventRead}
+use Rattle.sheet.specs.declared.Module.{Module}
+use Rattle.sheet.specs.declared.Event.{Event}
 use Rattle.sheet.specs.Bytes.{byte_at, word_at, ends_inside}
 use Rattle.sheet.specs.Layout.{count_size, event_size, module_record, event_record}
 
-abbrev pub count_read : List ℕ → ℕ → CountRead
-count_read s p = if ends_inside s p count_size then CountRead.Short else CountRead.Whole (word_at s p)
+-- of a size
+abbrev pub whole_read : {A : Type 0} → List ℕ → ℕ → ℕ → A → Option A
+whole_read s p size stands = if ends_inside s p size then None else Some stands
 
-abbrev pub node_read : List ℕ → ℕ → NodeRead
-node_read s p = if ends_inside s p 1 then NodeRead.Short else NodeRead.Whole (byte_at s p)
+abbrev pub count_read : List ℕ → ℕ → Option ℕ
+count_read s p = whole_read s p count_size (word_at s p)
 
-abbrev pub module_read : Edition → List ℕ → ℕ → ModuleRead
-module_read e s p = if ends_inside s p e.size then ModuleRead.Short else ModuleRead.Whole (module_record e s p)
+abbrev pub node_read : List ℕ → ℕ → Option ℕ
+node_read s p = whole_read s p 1 (byte_at s p)
 
-abbrev pub event_read : List ℕ → ℕ → EventRead
-event_read s p = if ends_inside s p event_size then EventRead.Short else EventRead.Whole (event_record s p)
+abbrev pub module_read : Edition → List ℕ → ℕ → Option Module
+module_read e s p = whole_read s p e.size (module_record e s p)
+
+abbrev pub event_read : List ℕ → ℕ → Option Event
+event_read s p = whole_read s p event_size (event_record s p)

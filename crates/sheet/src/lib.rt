@@ -1,14 +1,20 @@
 // The sheet's bytes: its records, and reading them.
 #![tactic(auto)]
 
-ghost use Rattle.std.specs.Prelude.{◌≡◌, ◌+◌, ◌<◌, ◌≤◌};
-ghost use Rattle.sheet.specs.Bytes.{byte_at, word_at, long_at};
+mod contents;
+mod refusal;
+
+ghost use Rattle.std.specs.Prelude.{not, ◌≡◌, ◌+◌, ◌<◌, ◌≤◌, if◌then◌else◌};
+ghost use Rattle.sheet.specs.Bytes.{byte_at, word_at, long_at, ends_inside};
 ghost use Rattle.sheet.specs.Layout.{first_edition, second_edition, has_third, third_at, delay_place, module_record, event_record};
-ghost use Rattle.sheet.specs.Outcome.{or_else, outcome_of};
-ghost use Rattle.sheet.specs.Range.{range_answer, horizon_answer};
+ghost use Rattle.sheet.specs.Outcome.{finished};
+ghost use Rattle.sheet.specs.Told.{as_refused, refusal_in};
+ghost use Rattle.sheet.specs.Range.{zero_or_above, horizon_answer};
 ghost use Rattle.sheet.specs.Reading.{count_read, node_read, module_read, event_read};
 
+pub use contents::{Contents, Section};
 use level::Level;
+pub use refusal::{Answer, Refusal};
 
 // The sizes of a count and of an event's record; a node's and a watched node's is one byte.
 pub const COUNT_SIZE: u32 = 2;
@@ -55,15 +61,13 @@ pub const GREATEST_HORIZON: u32 = 1000000;
 
 pub const PENDING_LIMIT: usize = 4096;
 
-// The refusal of a horizon outside its range.
-const HORIZON_OUTSIDE: u32 = 1;
-
 // The size of a module's record in document 01's edition, and in document 02's, which has a third input.
 const FIRST_SIZE: u8 = 7;
 
 const SECOND_SIZE: u8 = 8;
 
-// What tells editions of the sheet apart: a module record's size in bytes, and the greatest kind.
+// What tells editions of the sheet apart: a module record's size in bytes, and the greatest kind. That it is one of the two, `Known`, is asked
+// where it is needed and is no ghost field: `module_record`, `read_sheet` and others promise their answer for every size and kind.
 #[derive(Clone, Copy)]
 pub struct Edition {
     pub size: u8,
@@ -89,46 +93,24 @@ pub fn second_edition() -> Edition
     }
 }
 
-// What a call answers.
-#[derive(Clone, Copy)]
-pub enum Answer {
-    // A finished call, with its count.
-    Ran(u32),
-    // A refusal: number, place, count of records written.
-    Refused(u32, u32, u32),
-}
-
-// A refusal stands; a finished call gives way to what follows.
-pub fn or_else(a: Answer, b: Answer) -> Answer
-    ensures { outcome_of result ≡ or_else (outcome_of a) (outcome_of b) }
+// Refuses a number that is 0 or above the greatest, with what a caller says.
+pub fn range_answer<E: Drop>(refusal: E, greatest: u32, n: u32) -> Result<(), E>
+    ensures { result ≡ (if zero_or_above greatest n then Err refusal else Ok tt) }
 {
-    match a {
-        Answer::Ran(_) => b,
-        Answer::Refused(number, place, count) => Answer::Refused(number, place, count),
+    if n == 0 || greatest < n {
+        return Err(refusal);
     }
-}
-
-// Refuses a number that is 0 or above the greatest.
-pub fn range_answer(number: u32, greatest: u32, n: u32) -> Answer
-    ensures { outcome_of result ≡ range_answer number greatest n }
-{
-    if n == 0 {
-        return Answer::Refused(number, 0, 0);
-    }
-    if greatest < n {
-        return Answer::Refused(number, 0, 0);
-    }
-    Answer::Ran(0)
+    Ok(())
 }
 
 // Refuses a horizon outside its range.
-pub fn horizon_answer(horizon: u32) -> Answer
-    ensures { outcome_of result ≡ horizon_answer horizon }
+pub fn horizon_answer(horizon: u32) -> Result<(), Refusal>
+    ensures { refusal_in result ≡ horizon_answer horizon }
 {
-    range_answer(HORIZON_OUTSIDE, GREATEST_HORIZON, horizon)
+    range_answer(Refusal::HorizonOutside, GREATEST_HORIZON, horizon)
 }
 
-// A module's record.
+// A module's record. Its kind is a byte, as it stands in the sheet: `record_rows` tries any.
 #[derive(Clone, Copy)]
 pub struct Module {
     pub kind: u8,
@@ -165,81 +147,54 @@ pub const NO_EVENT: Event = Event {
     value: 0,
 };
 
-// A byte as an index: below 256 without more ado.
-pub fn wide(x: u8) -> usize
-    ensures { (result ≡ x) × (result < 256) }
-{
-    x as usize
-}
-
-// What stands at a place: the whole of a count or record, or bytes that end inside it.
-#[derive(Clone, Copy)]
-pub enum CountRead {
-    Whole(u16),
-    Short,
-}
-
-#[derive(Clone, Copy)]
-pub enum NodeRead {
-    Whole(u8),
-    Short,
-}
-
-#[derive(Clone, Copy)]
-pub enum ModuleRead {
-    Whole(Module),
-    Short,
-}
-
-#[derive(Clone, Copy)]
-pub enum EventRead {
-    Whole(Event),
-    Short,
-}
-
 // The byte at a place, and 0 past the end.
 pub fn byte(s: &[u8], p: usize) -> u8
     ensures { result ≡ byte_at s.now p }
 {
-    if p < s.len() { s[p] } else { 0 }
+    s.get(p).copied().unwrap_or(0)
 }
 
-// The number of two bytes at a place.
+// The number of two bytes at a place, the low byte first.
 pub fn word(s: &[u8], p: u32) -> u16
     ensures { result ≡ word_at s.now p }
 {
     let at = p as usize;
-    (byte(s, at) as u16) + 256 * (byte(s, at + 1) as u16)
+    u16::from_le_bytes([byte(s, at), byte(s, at + 1)])
 }
 
 // The number of four bytes at a place.
-fn long(s: &[u8], p: u32) -> u32
+pub fn long(s: &[u8], p: u32) -> u32
     ensures { result ≡ long_at s.now p }
 {
     let at = p as usize;
-    (word(s, p) as u32) + 65536 * (byte(s, at + 2) as u32) + 16777216 * (byte(s, at + 3) as u32)
+    u32::from_le_bytes([
+        byte(s, at),
+        byte(s, at + 1),
+        byte(s, at + 2),
+        byte(s, at + 3),
+    ])
 }
 
-// The count at a place.
-pub fn count_at(s: &[u8], p: u32) -> CountRead
+// Whether the bytes do not end inside what stands at a place, so many bytes long.
+fn whole(s: &[u8], p: u32, size: usize) -> bool
+    requires { size < 65536 }
+    ensures { result ≡ not (ends_inside s.now p size) }
+{
+    (p as usize) + size <= s.len()
+}
+
+// The count at a place: none where the bytes end inside it, and so of each record.
+pub fn count_at(s: &[u8], p: u32) -> Option<u16>
     ensures { result ≡ count_read s.now p }
 {
-    if s.len() < (p as usize) + COUNT_BYTES {
-        CountRead::Short
-    } else {
-        CountRead::Whole(word(s, p))
-    }
+    whole(s, p, COUNT_BYTES).then(|| word(s, p))
 }
 
 // The node, or watched node, at a place.
-pub fn node_at(s: &[u8], p: u32) -> NodeRead
+pub fn node_at(s: &[u8], p: u32) -> Option<u8>
     ensures { result ≡ node_read s.now p }
 {
-    if s.len() < (p as usize) + 1 {
-        NodeRead::Short
-    } else {
-        NodeRead::Whole(byte(s, p as usize))
-    }
+    whole(s, p, 1).then(|| byte(s, p as usize))
 }
 
 // Whether an edition's module records have a third input.
@@ -285,18 +240,14 @@ pub fn module_record(e: Edition, s: &[u8], p: u32) -> Module
         first: byte(s, at + 3),
         second: byte(s, at + 4),
         third,
-        delay: (byte(s, delay) as u16) + 256 * (byte(s, delay + 1) as u16),
+        delay: u16::from_le_bytes([byte(s, delay), byte(s, delay + 1)]),
     }
 }
 
-pub fn module_at(e: Edition, s: &[u8], p: u32) -> ModuleRead
+pub fn module_at(e: Edition, s: &[u8], p: u32) -> Option<Module>
     ensures { result ≡ module_read e s.now p }
 {
-    if s.len() < (p as usize) + (e.size as usize) {
-        ModuleRead::Short
-    } else {
-        ModuleRead::Whole(module_record(e, s, p))
-    }
+    whole(s, p, e.size as usize).then(|| module_record(e, s, p))
 }
 
 // The event's record at a place, and zeros past the end.
@@ -311,31 +262,8 @@ pub fn event_record(s: &[u8], p: u32) -> Event
     }
 }
 
-pub fn event_at(s: &[u8], p: u32) -> EventRead
+pub fn event_at(s: &[u8], p: u32) -> Option<Event>
     ensures { result ≡ event_read s.now p }
 {
-    if s.len() < (p as usize) + EVENT_BYTES {
-        EventRead::Short
-    } else {
-        EventRead::Whole(event_record(s, p))
-    }
-}
-
-// How many records each section has.
-#[derive(Clone, Copy)]
-pub struct Counts {
-    pub nodes: u16,
-    pub modules: u16,
-    pub events: u16,
-    pub watched: u16,
-}
-
-// What a sheet holds: the records of its sections. Past the counts they are zeros.
-#[derive(Drop)]
-pub struct Contents {
-    pub counts: Counts,
-    pub nodes: [u8; NODES],
-    pub modules: [Module; MODULES],
-    pub drive: [Event; EVENTS],
-    pub watched: [u8; WATCHED],
+    whole(s, p, EVENT_BYTES).then(|| event_record(s, p))
 }

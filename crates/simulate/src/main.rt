@@ -8,7 +8,7 @@ ghost use Rattle.program.specs.Room.{lent_bytes, text_bytes};
 
 use std::io::Read;
 
-// The bytes that are lent for the listing.
+// The bytes that are lent for the listing. The program's buffers are arrays, since there is no heap.
 const LISTING: usize = 60000;
 
 // The longest text: a first line of 31 bytes, and 6,000 lines of 21.
@@ -23,21 +23,18 @@ fn print_whole(input: &[u8], listing: &mut [u8; LISTING], text: &mut [u8; TEXT])
     program::simulate(input, listing, text)
 }
 
-// Fills the array from its start until it is full, the input ends or a read fails. Answers how many bytes it put there.
+// Fills the array from its start until it is full, the input ends or a read fails. Answers how many bytes it put there, which `read_exact`
+// does not say where the input ends early.
 fn read_full<R: Read>(reader: &mut R, input: &mut [u8]) -> usize
     ensures within { result ≤ length input.new }
     ensures bytes { Consumes (R.remaining reader.old) (R.remaining reader.new) (take result input.new) }
 {
-    let mut done: usize = 0;
+    let mut done = 0;
     while done < input.len() {
-        let n = match reader.read(&mut input[done..]) {
-            Ok(n) => n,
-            Err(_) => 0,
-        };
-        if n == 0 {
-            return done;
+        match reader.read(&mut input[done..]) {
+            Ok(n) if n > 0 => done += n,
+            _ => return done,
         }
-        done += n;
     }
     done
 }

@@ -66,6 +66,10 @@ module _ (drive : List Event) where
   split t zero rise = record { within = omega arith; before = λ a h. absurd (not-suc-le-zero h); after = λ a h b. absurd (not-suc-le-zero b) }
   split t (suc n) rise = split_more rise (split t n (λ a b l h. rise a b l (le_step h)))
 
+  -- the first event that is not before tick t is one of the drive, or its end
+  pub first_within : (t : ℕ) → Driving drive → next_event drive t ≤ length drive
+  first_within t d = (split t (length drive) d.ticks).within
+
 -- the events of tick t from number next up to e are put into the values
 pub record Put (drive : List Event) (t next : ℕ) (values₀ : List ℕ) (e : ℕ) (values : List ℕ) : Type 0 where
   pub from : next ≤ e

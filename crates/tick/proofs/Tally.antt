@@ -1,5 +1,4 @@
 -- The counts of what a node's drivers give: a contribution that changes takes one off and adds one, at its own node alone; so the counts tell the join. Flags and counts as they are loaded. Assumes nothing.
-use borrow.Author.Count.{below_more}
 use borrow.Author.Tests.{eqb-true, eq-eqb, ne_eqb}
 use lib.Dec.{eqb}
 use lib.ListN.{length, get_or, set, replicate, length-set, get_or-replicate}
@@ -18,9 +17,9 @@ use Rattle.level.proofs.Gates.{values_all}
 use Rattle.level.proofs.Join.{joined_by_counts, count_append, count_member}
 use Rattle.sheet.specs.Enumerate.{each, chosen}
 use Rattle.sheet.proofs.Chosen.{chosen_same, chosen_all, chosen-mem}
-use Rattle.tick.specs.Tables.{table_at}
+use Rattle.tick.specs.declared.row.Row.{Row}
 use Rattle.tick.specs.Rest.{Levels}
-use Rattle.tick.specs.Tally.{driven_at, present_in, count_at, one_less, one_more, flag_at, DrivesAlone, Flagged, CountedAt, Tallied}
+use Rattle.tick.specs.Tally.{driven_at, present_in, count_at, one_less, one_more, alone_at, Flagged, CountedAt, Tallied}
 
 -- one where a value is x
 abbrev pub one : ℕ → ℕ → ℕ
@@ -88,11 +87,14 @@ module _ (counts : List ℕ) (size : length counts ≡ 1024) (v x : ℕ) (node :
   less_elsewhere : (u y : ℕ) → y < 4 → (u ≡ v → ⊥) → count_at (one_less counts v x) u y ≡ count_at counts u y
   less_elsewhere u y l d = get_or-set_other counts (4 * v + x) (4 * u + y) _ 0 (λ e. d (omega (arith, e)))
 
-module _ (table : List ℕ) (n : ℕ) where
+module _ (rows : List Row) where
+  abbrev n : ℕ
+  n = length rows
+
   -- the module at position k gives another value
-  module _ {shared : Bool} {given counts : List ℕ} (T : Tallied table n shared given counts) (levels : Levels given) (k : ℕ) (h : k < n) (value : ℕ) (level : value < 4) where
+  module _ {shared : Bool} {given counts : List ℕ} (T : Tallied rows shared given counts) (levels : Levels given) (k : ℕ) (h : k < n) (value : ℕ) (level : value < 4) where
     abbrev v : ℕ
-    v = driven_at table k
+    v = driven_at rows k
 
     abbrev given' : List ℕ
     given' = set given k value
@@ -104,20 +106,20 @@ module _ (table : List ℕ) (n : ℕ) where
     given_elsewhere j d = get_or-set_other given k j value 0 d
 
     -- which counts at its own node alone
-    other_node : (u : ℕ) → (u ≡ v → ⊥) → present_in table n given' u ≡ present_in table n given u
-    other_node u d = chosen_same n _ _ _ _ (λ j l. refl) (λ j l e. given_elsewhere j (λ i. d (sym (eqb-true (driven_at table j) u e) ∙ ap (driven_at table) i)))
+    other_node : (u : ℕ) → (u ≡ v → ⊥) → present_in rows n given' u ≡ present_in rows n given u
+    other_node u d = chosen_same n _ _ _ _ (λ j l. refl) (λ j l e. given_elsewhere j (λ i. d (sym (eqb-true (driven_at rows j) u e) ∙ ap (driven_at rows) i)))
 
     -- at a node with others
-    module _ (others : flag_at table k ≡ 0 → ⊥) (node : v < 256) where
+    module _ (others : alone_at rows k ≡ false) (node : v < 256) where
       abbrev old : ℕ
       old = get_or given k 0
 
-      driving : eqb (driven_at table k) v ≡ true
+      driving : eqb (driven_at rows k) v ≡ true
       driving = eq-eqb v v refl
 
       -- what it gave is counted, and there are no more drivers than modules
       pub old_counted : 0 < count_at counts v old
-      old_counted = rw (T.counted k h others old (levels.each k)) (count_member old (chosen-mem n (λ j. eqb (driven_at table j) v) (λ j. get_or given j 0) k h driving))
+      old_counted = rw (T.counted k h others old (levels.each k)) (count_member old (chosen-mem n (λ j. eqb (driven_at rows j) v) (λ j. get_or given j 0) k h driving))
 
       pub few_counted : count_at (one_less counts v old) v value < 65535
       few_counted =
@@ -125,7 +127,7 @@ module _ (table : List ℕ) (n : ℕ) where
             arith,
             T.few,
             T.counted k h others value level,
-            count_most (λ j. eqb (driven_at table j) v) value n (λ j. get_or given j 0),
+            count_most (λ j. eqb (driven_at rows j) v) value n (λ j. get_or given j 0),
             less_at counts T.size v old node (levels.each k) old_counted value,
           )
 
@@ -136,57 +138,57 @@ module _ (table : List ℕ) (n : ℕ) where
       less_size = length-set counts (4 * v + old) _ ∙ T.size
 
       -- at this node
-      counted_here : CountedAt table n given' counts' v
+      counted_here : CountedAt rows n given' counts' v
       counted_here x b =
           omega (
             arith,
             more_at (one_less counts v old) less_size v value node level x,
             less_at counts T.size v old node (levels.each k) old_counted x,
             T.counted k h others x b,
-            count_changed (λ j. eqb (driven_at table j) v) x n (λ j. get_or given' j 0) (λ j. get_or given j 0) k h driving given_elsewhere,
+            count_changed (λ j. eqb (driven_at rows j) v) x n (λ j. get_or given' j 0) (λ j. get_or given j 0) k h driving given_elsewhere,
             ap (λ a. one a x) given_there,
           )
 
-      pub shared_tallied : Tallied table n shared given' counts'
+      pub shared_tallied : Tallied rows shared given' counts'
       shared_tallied =
           record {
             few = T.few;
             size = length-set (one_less counts v old) (4 * v + value) _ ∙ less_size;
             flagged = T.flagged;
             none_flagged = T.none_flagged;
-            counted = λ j l flag. by j l flag (ℕ_discrete (driven_at table j) v);
+            counted = λ j l flag. by j l flag (ℕ_discrete (driven_at rows j) v);
           }
         where
-          by : (j : ℕ) → j < n → (flag_at table j ≡ 0 → ⊥) → Dec (driven_at table j ≡ v) → CountedAt table n given' counts' (driven_at table j)
-          by j l flag (yes e) = subst (CountedAt table n given' counts') (sym e) counted_here
+          by : (j : ℕ) → j < n → alone_at rows j ≡ false → Dec (driven_at rows j ≡ v) → CountedAt rows n given' counts' (driven_at rows j)
+          by j l flag (yes e) = subst (CountedAt rows n given' counts') (sym e) counted_here
           by j l flag (no d) =
               λ x b.
-              more_elsewhere (one_less counts v old) less_size v value node level (driven_at table j) x b d
-              ∙ less_elsewhere counts T.size v old node (levels.each k) (driven_at table j) x b d
+              more_elsewhere (one_less counts v old) less_size v value node level (driven_at rows j) x b d
+              ∙ less_elsewhere counts T.size v old node (levels.each k) (driven_at rows j) x b d
               ∙ T.counted j l flag x b
-              ∙ ap (count_of x) (sym (other_node (driven_at table j) d))
+              ∙ ap (count_of x) (sym (other_node (driven_at rows j) d))
 
       -- and the counts tell the join
-      pub shared_joined : joined_counts (count_at counts' v 0) (count_at counts' v 1) (count_at counts' v 2) ≡ joined (present_in table n given' v)
+      pub shared_joined : joined_counts (count_at counts' v 0) (count_at counts' v 1) (count_at counts' v 2) ≡ joined (present_in rows n given' v)
       shared_joined =
           (λ i. joined_counts (counted_here 0 (omega arith) i) (counted_here 1 (omega arith) i) (counted_here 2 (omega arith) i))
-          ∙ sym (joined_by_counts (present_in table n given' v) (values_all _ (chosen_all (λ x. x < 4) n (λ j. eqb (driven_at table j) v) (λ j. get_or given' j 0) (λ j l e. at j (ℕ_discrete j k)))))
+          ∙ sym (joined_by_counts (present_in rows n given' v) (values_all _ (chosen_all (λ x. x < 4) n (λ j. eqb (driven_at rows j) v) (λ j. get_or given' j 0) (λ j l e. at j (ℕ_discrete j k)))))
         where
           at : (j : ℕ) → Dec (j ≡ k) → get_or given' j 0 < 4
           at j (yes e) = rw e (omega (arith, given_there))
           at j (no d) = rw (given_elsewhere j d) (levels.each j)
 
 -- what is given is counted, one module after another
-module _ (table given counts : List ℕ) (size : length counts ≡ 1024) (k : ℕ) (node : driven_at table k < 256) (level : get_or given k 0 < 4)
-    (so_far : (v : ℕ) → v < 256 → CountedAt table k given counts v) where
-  pub counted_more : (v : ℕ) → v < 256 → CountedAt table (k + 1) given (one_more counts (driven_at table k) (get_or given k 0)) v
-  counted_more v l x b = rw (add-one k) (by (ℕ_discrete (driven_at table k) v))
+module _ (rows : List Row) (given counts : List ℕ) (size : length counts ≡ 1024) (k : ℕ) (node : driven_at rows k < 256) (level : get_or given k 0 < 4)
+    (so_far : (v : ℕ) → v < 256 → CountedAt rows k given counts v) where
+  pub counted_more : (v : ℕ) → v < 256 → CountedAt rows (k + 1) given (one_more counts (driven_at rows k) (get_or given k 0)) v
+  counted_more v l x b = rw (add-one k) (by (ℕ_discrete (driven_at rows k) v))
     where
-      more : count_of x (chosen (suc k) (λ j. eqb (driven_at table j) v) (λ j. get_or given j 0))
-          ≡ count_of x (present_in table k given v) + (if eqb (driven_at table k) v then one (get_or given k 0) x else 0)
-      more = count_more (λ j. eqb (driven_at table j) v) x k (λ j. get_or given j 0)
+      more : count_of x (chosen (suc k) (λ j. eqb (driven_at rows j) v) (λ j. get_or given j 0))
+          ≡ count_of x (present_in rows k given v) + (if eqb (driven_at rows k) v then one (get_or given k 0) x else 0)
+      more = count_more (λ j. eqb (driven_at rows j) v) x k (λ j. get_or given j 0)
 
-      by : Dec (driven_at table k ≡ v) → count_at (one_more counts (driven_at table k) (get_or given k 0)) v x ≡ count_of x (present_in table (suc k) given v)
+      by : Dec (driven_at rows k ≡ v) → count_at (one_more counts (driven_at rows k) (get_or given k 0)) v x ≡ count_of x (present_in rows (suc k) given v)
       by (yes e) =
           omega (
             arith,
@@ -194,38 +196,23 @@ module _ (table given counts : List ℕ) (size : length counts ≡ 1024) (k : �
             more_at counts size v (get_or given k 0) l level x,
             so_far v l x b,
             more,
-            ap (λ c. if c then one (get_or given k 0) x else 0) (eq-eqb (driven_at table k) v e),
+            ap (λ c. if c then one (get_or given k 0) x else 0) (eq-eqb (driven_at rows k) v e),
           )
       by (no d) =
           omega (
             arith,
-            more_elsewhere counts size (driven_at table k) (get_or given k 0) node level v x b (λ e. d (sym e)),
+            more_elsewhere counts size (driven_at rows k) (get_or given k 0) node level v x b (λ e. d (sym e)),
             so_far v l x b,
             more,
-            ap (λ c. if c then one (get_or given k 0) x else 0) (ne_eqb (driven_at table k) v d),
+            ap (λ c. if c then one (get_or given k 0) x else 0) (ne_eqb (driven_at rows k) v d),
           )
 
-pub none_counted : (table given : List ℕ) (v : ℕ) → v < 256 → CountedAt table 0 given (replicate 1024 0) v
+pub none_counted : (rows : List Row) (given : List ℕ) (v : ℕ) → v < 256 → CountedAt rows 0 given (replicate 1024 0) v
 unfolding each
-none_counted table given v h x b = get_or-replicate 1024 (4 * v + x) 0 0 (omega arith)
+none_counted rows given v h x b = get_or-replicate 1024 (4 * v + x) 0 0 (omega arith)
 
 -- flags and counts as they are loaded
-pub tallied : {table given counts : List ℕ} {shared : Bool} (n : ℕ) → n ≤ 256 → Flagged table n → (shared ≡ false → (k : ℕ) → k < n → flag_at table k ≡ 0) → length counts ≡ 1024
-    → ((k : ℕ) → k < n → driven_at table k < 256) → ((v : ℕ) → v < 256 → CountedAt table n given counts v) → Tallied table n shared given counts
-tallied {table} n few flags none size node counted =
-    record { few = few; size = size; flagged = flags; none_flagged = none; counted = λ k h flag. counted (driven_at table k) (node k h) }
-
--- one flag more: the records stay, and so do the other flags
-module _ (table : List ℕ) (k x : ℕ) where
-  pub record_kept : (j f : ℕ) → f < 6 → table_at (set table (8 * k + 6) x) j f ≡ table_at table j f
-  record_kept j f h = get_or-set_other table (8 * k + 6) (8 * j + f) x 0 (λ e. omega (arith, e))
-
-  pub flags_more : (n : ℕ) → 8 * k + 6 < length table → ((j : ℕ) → j < k → flag_at table j ≡ 0 → DrivesAlone table n j) → (x ≡ 0 → DrivesAlone table n k)
-      → (j : ℕ) → j < k + 1 → flag_at (set table (8 * k + 6) x) j ≡ 0 → DrivesAlone (set table (8 * k + 6) x) n j
-  flags_more n h before this =
-      below_more (λ j. flag_at (set table (8 * k + 6) x) j ≡ 0 → DrivesAlone (set table (8 * k + 6) x) n j) k
-      (λ j l e. still j (before j l (sym (get_or-set_other table (8 * k + 6) (8 * j + 6) x 0 (omega arith)) ∙ e)))
-      (λ e. still k (this (sym (get_or-set_same table (8 * k + 6) x 0 h) ∙ e)))
-    where
-      still : (j : ℕ) → DrivesAlone table n j → DrivesAlone (set table (8 * k + 6) x) n j
-      still j alone i l e = alone i l (sym (record_kept i 2 (omega arith)) ∙ e ∙ record_kept j 2 (omega arith))
+pub tallied : (rows : List Row) {given counts : List ℕ} {shared : Bool} → length rows ≤ 256 → Flagged rows → (shared ≡ false → (k : ℕ) → k < length rows → alone_at rows k ≡ true)
+    → length counts ≡ 1024 → ((k : ℕ) → k < length rows → driven_at rows k < 256) → ((v : ℕ) → v < 256 → CountedAt rows (length rows) given counts v) → Tallied rows shared given counts
+tallied rows few flags none size node counted =
+    record { few = few; size = size; flagged = flags; none_flagged = none; counted = λ k h flag. counted (driven_at rows k) (node k h) }

@@ -1,5 +1,5 @@
 -- What the passes of a tick work on, rest on and leave.
-pub mod Tables
+pub mod Rows
 pub mod Rest
 pub mod Tally
 pub mod Tick

@@ -10,23 +10,20 @@ use Rattle.sheet.specs.Refusal.{greatest_parameter}
 use Rattle.model.specs.Change.{Change}
 use Rattle.model.specs.Drive.{event_in}
 use Rattle.model.specs.Passes.{module_in}
-use Rattle.tick.specs.Tables.{table_at}
+use Rattle.tick.specs.declared.row.Row.{Row}
+use Rattle.tick.specs.Rows.{row_in}
 
 -- a kind that has a rule, and a parameter that it allows
 pub record Known (kind parameter : ℕ) : Type 0 where
   pub has_rule : kind ≤ last_kind
   pub allowed : parameter ≤ greatest_parameter kind
 
--- the first n modules of the table
-abbrev pub KnownIn : List ℕ → ℕ → Type 0
-KnownIn table n = (k : ℕ) → k < n → Known (table_at table k 0) (table_at table k 1)
-
 abbrev pub AllKnown : List Module → Type 0
 AllKnown modules = (k : ℕ) → k < length modules → Known (module_in modules k).kind (module_in modules k).parameter
 
--- the starts of the first n modules of the table
-abbrev pub StartsIn : List ℕ → List ℕ → ℕ → Type 0
-StartsIn table starts n = (k : ℕ) → k < n → get_or starts k 0 ≡ start_of (table_at table k 0)
+-- the start that is kept at each position is that of the kind there
+abbrev pub StartsIn : List Row → Type 0
+StartsIn rows = (k : ℕ) → k < length rows → (row_in rows k).start ≡ start_of (row_in rows k).module.kind
 
 -- the values of all nodes that there may be, or of as many modules
 pub record Levels (values : List ℕ) : Type 0 where

@@ -1,69 +1,65 @@
 -- One tick's work on the values, what modules give, the values come to last and the pending changes, as the model has it.
 use Rattle.std.specs.Prelude.{List, [], ◌≡◌, ℕ, suc, ◌<◌, ◌≤◌, length}
-use Rattle.sheet.specs.Limits.{most_modules, most_events, pending_limit, greatest_horizon}
+use Rattle.sheet.specs.Limits.{pending_limit}
 use Rattle.model.specs.Drive.{event_in, next_event}
 use Rattle.model.specs.Passes.{module_in, Settled, Scheduled}
-use Rattle.model.specs.Starts.{StartsOf}
 use Rattle.model.specs.State.{State, Loaded, tick}
-use Rattle.pending.specs.Kept.{arrangement, kept_in, pending_room, Sized}
-use Rattle.tick.specs.Tables.{modules_in, drive_in}
-use Rattle.tick.specs.Rest.{AllKnown, Levels, Driving, Placed}
-use Rattle.tick.specs.Tally.{given_in}
-use Rattle.tick.specs.declared.Shape.{Shape}
-use Rattle.tick.specs.declared.Carried.{Carried}
+use Rattle.pending.specs.Kept.{arrangement, pending_room}
+use Rattle.tick.specs.declared.row.Row.{Row}
+use Rattle.tick.specs.declared.fixed.Network.{Network}
+use Rattle.tick.specs.declared.carried.Present.{Present}
+use Rattle.tick.specs.declared.carried.Ahead.{Ahead}
+use Rattle.tick.specs.declared.carried.Carried.{Carried}
+use Rattle.tick.specs.Rows.{modules_in}
+use Rattle.tick.specs.Rest.{Placed}
+use Rattle.tick.specs.Tally.{given_in, Tallied}
 
--- arrays as the model keeps them
-abbrev pub settled_in : List ℕ → ℕ → List ℕ → List ℕ → Settled
-settled_in table n values kept = record { values = values; given = given_in table n values kept }
+-- what is carried, as the model keeps it
+abbrev pub settled_in : List Row → List ℕ → List ℕ → Settled
+settled_in rows values kept = record { values = values; given = given_in rows values kept }
 
-abbrev pub scheduled : List ℕ → arrangement.Kept → Scheduled arrangement
-scheduled last pending = record { last = last; pending = pending }
+abbrev pub settled : List Row → Present → Settled
+settled rows p = settled_in rows p.values p.kept
 
--- what stands in the tables; the watched nodes do not matter to the modules
-abbrev pub loaded_in : List ℕ → List ℕ → List ℕ → List ℕ → List ℕ → Shape → Loaded
-loaded_in table delays ticks nodes levels shape =
-    record {
-      drive = drive_in ticks nodes levels shape.events;
-      modules = modules_in table delays shape.modules;
-      delayed = shape.delayed;
-      watched = [];
-    }
+abbrev pub scheduled : Ahead → Scheduled arrangement
+scheduled a = record { last = a.last; pending = a.pending }
 
--- what a tick's work rests on
-pub record Workable (shape : Shape) (l : Loaded) (horizon t : ℕ) (values kept last starts store : List ℕ) (before : Carried) : Type 0 where
-  pub few_modules : shape.modules ≤ most_modules
-  pub few_delayed : shape.delayed ≤ shape.modules
-  pub few_events : shape.events ≤ most_events
-  pub known : AllKnown l.modules
-  pub starts_kept : StartsOf l.modules starts
-  pub driving : Driving l.drive
+-- what is kept of what the modules give may be relied on
+abbrev pub TalliedIn : Network → Present → Type 0
+TalliedIn network p = Tallied network.rows.now network.shared p.kept p.counts
+
+-- what stands in a network; the watched nodes do not matter to the modules
+abbrev pub loaded_in : Network → Loaded
+loaded_in network =
+    record { drive = network.drive.now; modules = modules_in network.rows.now; delayed = network.delayed; watched = [] }
+
+-- what a tick's work rests on, beside what each network and all that is carried has
+pub record Workable (network : Network) (t : ℕ) (before : Carried) : Type 0 where
   -- no event drives a node that a module drives
-  pub apart : (e k : ℕ) → e < length l.drive → k < length l.modules → (event_in l.drive e).node ≡ (module_in l.modules k).output → ⊥
-  pub next : before.next ≡ next_event l.drive t
-  pub few_pending : before.pending ≤ pending_limit
-  pub placed : Placed shape.modules (arrangement.due (kept_in store before.pending) t)
-  pub below : t < horizon
-  pub few_ticks : horizon ≤ greatest_horizon
-  pub values_levels : Levels values
-  pub kept_levels : Levels kept
-  pub last_levels : Levels last
-  pub store_size : Sized store
+  pub apart : (e k : ℕ) → e < length network.drive.now → k < length network.rows.now
+      → (event_in network.drive.now e).node ≡ (module_in (modules_in network.rows.now) k).output → ⊥
+  pub next : before.next ≡ next_event network.drive.now t
+  pub few_pending : arrangement.count before.ahead.pending ≤ pending_limit
+  pub placed : Placed (length network.rows.now) (arrangement.due before.ahead.pending t)
+  pub below : t < network.horizon
+  pub tallied : TalliedIn network before.present
 
--- what is shown does not matter to it, nor does what is kept of the tables
+-- what is shown does not matter to it, nor do the starts
 abbrev pub worked_tick : Loaded → ℕ → ℕ → Settled → List ℕ → arrangement.Kept → State arrangement
 worked_tick l horizon t st last pending =
     (tick arrangement l horizon t
     (record { values = st.values; given = st.given; last = last; shown = []; starts = []; pending = pending })).state
 
--- the arrays after a tick's work, and what stands then
-pub record Worked (l : Loaded) (horizon t : ℕ) (st : Settled) (last : List ℕ) (pending : arrangement.Kept)
-    (st' : Settled) (last' store' : List ℕ) (after : Carried) : Type 0 where
-  pub values_worked : st'.values ≡ (worked_tick l horizon t st last pending).values
-  pub given_worked : st'.given ≡ (worked_tick l horizon t st last pending).given
-  pub last_worked : last' ≡ (worked_tick l horizon t st last pending).last
-  pub pending_worked : kept_in store' after.pending ≡ (worked_tick l horizon t st last pending).pending
-  pub next : after.next ≡ next_event l.drive (suc t)
-  pub few : after.pending ≤ pending_room
-  pub values_levels : Levels st'.values
-  pub last_levels : Levels last'
-  pub store_size : Sized store'
+-- what is carried after a tick's work, by what was carried before it
+abbrev pub worked_from : Network → ℕ → Carried → State arrangement
+worked_from network t before =
+    worked_tick (loaded_in network) network.horizon t (settled network.rows.now before.present) before.ahead.last before.ahead.pending
+
+pub record Worked (network : Network) (t : ℕ) (before after : Carried) : Type 0 where
+  pub values_worked : after.present.values ≡ (worked_from network t before).values
+  pub given_worked : given_in network.rows.now after.present.values after.present.kept ≡ (worked_from network t before).given
+  pub last_worked : after.ahead.last ≡ (worked_from network t before).last
+  pub pending_worked : after.ahead.pending ≡ (worked_from network t before).pending
+  pub next : after.next ≡ next_event network.drive.now (suc t)
+  pub few : arrangement.count after.ahead.pending ≤ pending_room
+  pub tallied : TalliedIn network after.present

@@ -1,4 +1,5 @@
-// How many drivers of a node give each value.
+// How many drivers of a node give each value. The node is an index, as it is for its value, and no byte, which each function would widen anew;
+// one function for one less and one more would be no plainer than the two.
 ghost use Rattle.std.specs.Prelude.{◌≡◌, ◌<◌};
 ghost use Rattle.level.specs.Join.{joined_counts};
 ghost use Rattle.sheet.specs.Limits.{most_nodes};
@@ -6,15 +7,13 @@ ghost use Rattle.tick.specs.Tally.{count_at, one_less, one_more};
 
 use crate::COUNTS;
 use level::Level;
-use sheet::wide;
 
 // One driver of a node gives a value no more.
 pub(crate) fn count_less(counts: &mut [u16; COUNTS], output: usize, value: u8)
     requires { (output < most_nodes) × (value < 4) × (0 < count_at counts.old output value) }
     ensures { counts.new ≡ one_less counts.old output value }
 {
-    let at = 4 * output + wide(value);
-    counts[at] = counts[at] - 1;
+    counts[4 * output + usize::from(value)] -= 1;
 }
 
 // One driver of a node more gives a value.
@@ -22,8 +21,7 @@ pub(crate) fn count_more(counts: &mut [u16; COUNTS], output: usize, value: u8)
     requires { (output < most_nodes) × (value < 4) × (count_at counts.old output value < 65535) }
     ensures { counts.new ≡ one_more counts.old output value }
 {
-    let at = 4 * output + wide(value);
-    counts[at] = counts[at] + 1;
+    counts[4 * output + usize::from(value)] += 1;
 }
 
 // What the drivers of a node come to together.

@@ -1,52 +1,38 @@
 // The changes due at a tick: given, and taken from the pending ones.
-ghost use Rattle.std.specs.Prelude.{List, ◌≡◌, ℕ, ◌≤◌};
+ghost use Rattle.std.specs.Prelude.{◌≡◌, ◌≤◌, length};
 ghost use Rattle.model.specs.Passes.{give_all};
-ghost use Rattle.pending.specs.Kept.{arrangement, kept_in, pending_room, Sized};
-ghost use Rattle.tick.specs.Tables.{modules_in};
-ghost use Rattle.tick.specs.Rest.{Levels, Placed};
-ghost use Rattle.tick.specs.Tally.{Tallied};
-ghost use Rattle.tick.specs.Tick.{settled_in};
+ghost use Rattle.pending.specs.Kept.{arrangement};
+ghost use Rattle.tick.specs.Rows.{modules_in};
+ghost use Rattle.tick.specs.Rest.{Placed};
+ghost use Rattle.tick.specs.Tick.{settled, TalliedIn};
 
+use crate::carried::Present;
 use crate::contribution::give;
-use crate::{COUNTS, TABLE};
-use pending::{Met, Store};
-use sheet::{MODULES, NODES};
+use crate::fixed::Network;
+use pending::{Met, Pending};
 
-// Gives the changes due at tick t, each as what its module contributes from now on. Answers how many stay pending.
-pub(crate) fn give_due(
-    shared: bool,
-    table: &[u8; TABLE],
-    t: u32,
-    store: &mut Store,
-    count: usize,
-    values: &mut [u8; NODES],
-    kept: &mut [u8; MODULES],
-    counts: &mut [u16; COUNTS],
-) -> usize
-    requires { (count ≤ pending_room) × Sized store.old × Levels values.old × Levels kept.old
-        × ((n : ℕ) × Placed n (arrangement.due (kept_in store.old count) t) × Tallied table.now n shared kept.old counts.old) }
-    ensures { ((delays : List ℕ) (n : ℕ) → Placed n (arrangement.due (kept_in store.old count) t)
-        → Tallied table.now n shared kept.old counts.old
-        → (settled_in table.now n values.new kept.new
-        ≡ give_all (modules_in table.now delays n) (arrangement.due (kept_in store.old count) t)
-        (settled_in table.now n values.old kept.old))
-        × Tallied table.now n shared kept.new counts.new)
-        × (kept_in store.new result ≡ arrangement.rest (kept_in store.old count) t) × (result ≤ count)
-        × Sized store.new × Levels values.new × Levels kept.new }
+// Gives the changes due at tick t, each as what its module contributes from now on. The others stay pending. The loop counts nothing; an iterator
+// over those due would be a loop in the pass, which is slower (docs/DECISIONS.md, "Measures").
+pub(crate) fn give_due(network: Network, t: u32, pending: &mut Pending, present: &mut Present)
+    requires { Placed (length network.rows.now) (arrangement.due pending.old t) × TalliedIn network present.old }
+    ensures { (settled network.entry.rows.now present.new
+        ≡ give_all (modules_in network.entry.rows.now) (arrangement.due pending.old t) (settled network.entry.rows.now present.old))
+        × (pending.new ≡ arrangement.rest pending.old t)
+        × (arrangement.count pending.new ≤ arrangement.count pending.old) × TalliedIn network.entry present.new }
 {
-    let mut scan = pending::from_start();
+    let mut scan = pending.from_start();
     loop {
-        let met = pending::pass_next(store, scan, count, t);
+        let met = pending.pass_next(scan, t);
         match met {
             Met::Due(k, value, next) => {
-                give(shared, table, k, value, values, kept, counts);
+                give(network, k, value, present);
                 scan = next;
             }
             Met::Stays(next) => {
                 scan = next;
             }
-            Met::End(left) => {
-                return left;
+            Met::End => {
+                return;
             }
         }
     }

@@ -1,10 +1,11 @@
 // The library: what users call, and what each call promises. A call that takes a sheet is there for each edition: the second's with _2, a
-// conversion for each way.
+// conversion for each way. Each pair is one function inside, and stays a pair here since the header and the pages name each as a call.
 #![tactic(auto)]
 
 ghost use Rattle.std.specs.Prelude.{◌≡◌};
 ghost use Rattle.sheet.specs.Layout.{first_edition, second_edition};
 ghost use Rattle.sheet.specs.Outcome.{outcome_of};
+ghost use Rattle.sheet.specs.Told.{answer_in, refusal_in};
 ghost use Rattle.sheet.specs.Refusal.{checked_by, checked, checked_strictly};
 ghost use Rattle.format.specs.Accepted.{Known};
 ghost use Rattle.network.specs.Run.{RunLeaves};
@@ -14,47 +15,40 @@ ghost use Rattle.loaded.specs.Loading.{Loads};
 
 pub use sentence::describe;
 pub use sheet::Answer;
-use sheet::Edition;
+use sheet::{Edition, Refusal};
 
 // Checks a sheet of an edition, strictly or not: the refusals of its bytes, and then its zero-delay loops.
-fn check_in(strict: bool, edition: Edition, bytes: &[u8]) -> Answer
-    ensures { outcome_of result ≡ checked_by strict edition bytes.now }
+fn check_in(strict: bool, edition: Edition, bytes: &[u8]) -> Result<(), Refusal>
+    ensures { refusal_in result ≡ checked_by strict edition bytes.now }
 {
-    let read = reader::read_sheet(strict, edition, bytes);
-    let a = read.answer;
-    let Answer::Ran(_) = a else {
-        return a;
-    };
-    let contents = read.contents;
-    let modules = contents.modules;
-    let counts = contents.counts;
-    reach::loop_refusal(modules, counts.modules, counts.nodes)
+    let contents = reader::read_sheet(strict, edition, bytes)?;
+    reach::loop_refusal(contents.modules.listed(), contents.nodes.count)
 }
 
 // Checks a sheet without running it: refusals 2 to 14 and 16 to 18, or a finished call with count 0.
 pub fn check(sheet: &[u8]) -> Answer
     ensures { outcome_of result ≡ checked first_edition sheet.now }
 {
-    check_in(false, sheet::first_edition(), sheet)
+    Answer::from(check_in(false, sheet::first_edition(), sheet))
 }
 
 pub fn check_2(sheet: &[u8]) -> Answer
     ensures { outcome_of result ≡ checked second_edition sheet.now }
 {
-    check_in(false, sheet::second_edition(), sheet)
+    Answer::from(check_in(false, sheet::second_edition(), sheet))
 }
 
 // Checks a sheet and that each of its inputs has an event at tick 0: refusals 2 to 18, or a finished call with count 0.
 pub fn check_strict(sheet: &[u8]) -> Answer
     ensures { outcome_of result ≡ checked_strictly first_edition sheet.now }
 {
-    check_in(true, sheet::first_edition(), sheet)
+    Answer::from(check_in(true, sheet::first_edition(), sheet))
 }
 
 pub fn check_strict_2(sheet: &[u8]) -> Answer
     ensures { outcome_of result ≡ checked_strictly second_edition sheet.now }
 {
-    check_in(true, sheet::second_edition(), sheet)
+    Answer::from(check_in(true, sheet::second_edition(), sheet))
 }
 
 // Runs a sheet to a horizon: refusals 1 to 20 except 15, or a finished run with the count of its records.
@@ -62,24 +56,21 @@ pub fn check_strict_2(sheet: &[u8]) -> Answer
 pub fn run(sheet: &[u8], horizon: u32, listing: &mut [u8]) -> Answer
     ensures { RunLeaves first_edition sheet.now horizon listing.old (outcome_of result) listing.new }
 {
-    run::run(sheet::first_edition(), sheet, horizon, listing)
+    Answer::from(run::run(sheet::first_edition(), sheet, horizon, listing))
 }
 
 pub fn run_2(sheet: &[u8], horizon: u32, listing: &mut [u8]) -> Answer
     ensures { RunLeaves second_edition sheet.now horizon listing.old (outcome_of result) listing.new }
 {
-    run::run(sheet::second_edition(), sheet, horizon, listing)
+    Answer::from(run::run(sheet::second_edition(), sheet, horizon, listing))
 }
 
 // Converts a sheet of an edition to the other: the check's refusals, and then the conversion's.
-fn convert_in(from: Edition, to: Edition, sheet: &[u8], output: &mut [u8]) -> Answer
+fn convert_in(from: Edition, to: Edition, sheet: &[u8], output: &mut [u8]) -> Result<u32, Refusal>
     requires { Known from × Known to }
-    ensures { Converts from to sheet.now output.old (outcome_of result) output.new }
+    ensures { Converts from to sheet.now output.old (answer_in result) output.new }
 {
-    let checked = check_in(false, from, sheet);
-    let Answer::Ran(_) = checked else {
-        return checked;
-    };
+    check_in(false, from, sheet)?;
     convert::convert(from, to, sheet, output)
 }
 
@@ -88,24 +79,24 @@ fn convert_in(from: Edition, to: Edition, sheet: &[u8], output: &mut [u8]) -> An
 pub fn convert_1_to_2(sheet: &[u8], output: &mut [u8]) -> Answer
     ensures { Converts first_edition second_edition sheet.now output.old (outcome_of result) output.new }
 {
-    convert_in(
+    Answer::from(convert_in(
         sheet::first_edition(),
         sheet::second_edition(),
         sheet,
         output,
-    )
+    ))
 }
 
 // The other way, with refusal 22 besides: a kind above 9.
 pub fn convert_2_to_1(sheet: &[u8], output: &mut [u8]) -> Answer
     ensures { Converts second_edition first_edition sheet.now output.old (outcome_of result) output.new }
 {
-    convert_in(
+    Answer::from(convert_in(
         sheet::second_edition(),
         sheet::first_edition(),
         sheet,
         output,
-    )
+    ))
 }
 
 // Reports the pulses of a sheet of an edition that are shorter than a width: the refusals of horizon and width, the run, and then the report.
@@ -116,19 +107,13 @@ fn pulses_in(
     width: u32,
     listing: &mut [u8],
     report: &mut [u8],
-) -> Answer
+) -> Result<u32, Refusal>
     requires { Known edition }
     ensures { Reports edition sheet.now horizon width listing.old report.old
-        (outcome_of result) listing.new report.new }
+        (answer_in result) listing.new report.new }
 {
-    let asked = pulses::range_refusal(horizon, width);
-    let Answer::Ran(_) = asked else {
-        return asked;
-    };
-    let ran = run::run(edition, sheet, horizon, listing);
-    let Answer::Ran(records) = ran else {
-        return ran;
-    };
+    pulses::range_refusal(horizon, width)?;
+    let records = run::run(edition, sheet, horizon, listing)?;
     pulses::report(&*listing, records, horizon, width, report)
 }
 
@@ -145,14 +130,14 @@ pub fn pulses(
     ensures { Reports first_edition sheet.now horizon width listing.old report.old
         (outcome_of result) listing.new report.new }
 {
-    pulses_in(
+    Answer::from(pulses_in(
         sheet::first_edition(),
         sheet,
         horizon,
         width,
         listing,
         report,
-    )
+    ))
 }
 
 pub fn pulses_2(
@@ -165,25 +150,28 @@ pub fn pulses_2(
     ensures { Reports second_edition sheet.now horizon width listing.old report.old
         (outcome_of result) listing.new report.new }
 {
-    pulses_in(
+    Answer::from(pulses_in(
         sheet::second_edition(),
         sheet,
         horizon,
         width,
         listing,
         report,
-    )
+    ))
 }
 
 // Fills the drive of a sheet of an edition from a seed: the check's refusals, and then the load's.
-fn load_in(edition: Edition, sheet: &[u8], seed: u32, n: u32, output: &mut [u8]) -> Answer
+fn load_in(
+    edition: Edition,
+    sheet: &[u8],
+    seed: u32,
+    n: u32,
+    output: &mut [u8],
+) -> Result<u32, Refusal>
     requires { Known edition }
-    ensures { Loads edition sheet.now seed n output.old (outcome_of result) output.new }
+    ensures { Loads edition sheet.now seed n output.old (answer_in result) output.new }
 {
-    let checked = check_in(false, edition, sheet);
-    let Answer::Ran(_) = checked else {
-        return checked;
-    };
+    check_in(false, edition, sheet)?;
     loaded::load(edition, sheet, seed, n, output)
 }
 
@@ -193,11 +181,11 @@ fn load_in(edition: Edition, sheet: &[u8], seed: u32, n: u32, output: &mut [u8])
 pub fn load(sheet: &[u8], seed: u32, n: u32, output: &mut [u8]) -> Answer
     ensures { Loads first_edition sheet.now seed n output.old (outcome_of result) output.new }
 {
-    load_in(sheet::first_edition(), sheet, seed, n, output)
+    Answer::from(load_in(sheet::first_edition(), sheet, seed, n, output))
 }
 
 pub fn load_2(sheet: &[u8], seed: u32, n: u32, output: &mut [u8]) -> Answer
     ensures { Loads second_edition sheet.now seed n output.old (outcome_of result) output.new }
 {
-    load_in(sheet::second_edition(), sheet, seed, n, output)
+    Answer::from(load_in(sheet::second_edition(), sheet, seed, n, output))
 }

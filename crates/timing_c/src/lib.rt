@@ -1,5 +1,5 @@
 // The library's entry points for other languages. A slice passes as a pointer and a length. A call that takes a sheet is there for each
-// edition: the second's with _2, a conversion for each way.
+// edition: the second's with _2, a conversion for each way, as the C interface has them.
 #![tactic(auto)]
 
 ghost use Rattle.std.specs.Prelude.{◌≡◌};
@@ -14,52 +14,32 @@ ghost use Rattle.sentence.specs.Describing.{Describes};
 
 use timing::Answer;
 
-// An answer's three numbers: number (0 for a finished call), place, count.
-fn numbers_of(a: Answer) -> [u32; 3]
-    ensures { result ≡ numbers (outcome_of a) }
-{
-    match a {
-        Answer::Ran(count) => [0, 0, count],
-        Answer::Refused(number, place, count) => [number, place, count],
-    }
-}
-
-// The answer that three numbers stand for.
-fn answer_of(number: u32, place: u32, count: u32) -> Answer
-    ensures { outcome_of result ≡ from_numbers number place count }
-{
-    if number == 0 {
-        return Answer::Ran(count);
-    }
-    Answer::Refused(number, place, count)
-}
-
 #[unsafe(no_mangle)]
 pub extern "C" fn timing_check(sheet: &[u8], answer: &mut [u32; 3])
     ensures { answer.new ≡ numbers (checked first_edition sheet.now) }
 {
-    *answer = numbers_of(timing::check(sheet));
+    *answer = timing::check(sheet).into();
 }
 
 #[unsafe(no_mangle)]
 pub extern "C" fn timing_check_2(sheet: &[u8], answer: &mut [u32; 3])
     ensures { answer.new ≡ numbers (checked second_edition sheet.now) }
 {
-    *answer = numbers_of(timing::check_2(sheet));
+    *answer = timing::check_2(sheet).into();
 }
 
 #[unsafe(no_mangle)]
 pub extern "C" fn timing_check_strict(sheet: &[u8], answer: &mut [u32; 3])
     ensures { answer.new ≡ numbers (checked_strictly first_edition sheet.now) }
 {
-    *answer = numbers_of(timing::check_strict(sheet));
+    *answer = timing::check_strict(sheet).into();
 }
 
 #[unsafe(no_mangle)]
 pub extern "C" fn timing_check_strict_2(sheet: &[u8], answer: &mut [u32; 3])
     ensures { answer.new ≡ numbers (checked_strictly second_edition sheet.now) }
 {
-    *answer = numbers_of(timing::check_strict_2(sheet));
+    *answer = timing::check_strict_2(sheet).into();
 }
 
 // The three numbers are those of the answer that the run leaves.
@@ -68,7 +48,7 @@ pub extern "C" fn timing_run(sheet: &[u8], horizon: u32, listing: &mut [u8], ans
     ensures { (o : Outcome) × (answer.new ≡ numbers o)
         × RunLeaves first_edition sheet.now horizon listing.old o listing.new }
 {
-    *answer = numbers_of(timing::run(sheet, horizon, listing));
+    *answer = timing::run(sheet, horizon, listing).into();
 }
 
 #[unsafe(no_mangle)]
@@ -81,7 +61,7 @@ pub extern "C" fn timing_run_2(
     ensures { (o : Outcome) × (answer.new ≡ numbers o)
         × RunLeaves second_edition sheet.now horizon listing.old o listing.new }
 {
-    *answer = numbers_of(timing::run_2(sheet, horizon, listing));
+    *answer = timing::run_2(sheet, horizon, listing).into();
 }
 
 // The three numbers are those of the answer to the conversion.
@@ -90,7 +70,7 @@ pub extern "C" fn timing_convert_1_to_2(sheet: &[u8], output: &mut [u8], answer:
     ensures { (o : Outcome) × (answer.new ≡ numbers o)
         × Converts first_edition second_edition sheet.now output.old o output.new }
 {
-    *answer = numbers_of(timing::convert_1_to_2(sheet, output));
+    *answer = timing::convert_1_to_2(sheet, output).into();
 }
 
 #[unsafe(no_mangle)]
@@ -98,7 +78,7 @@ pub extern "C" fn timing_convert_2_to_1(sheet: &[u8], output: &mut [u8], answer:
     ensures { (o : Outcome) × (answer.new ≡ numbers o)
         × Converts second_edition first_edition sheet.now output.old o output.new }
 {
-    *answer = numbers_of(timing::convert_2_to_1(sheet, output));
+    *answer = timing::convert_2_to_1(sheet, output).into();
 }
 
 // The three numbers are those of the answer to the report.
@@ -115,7 +95,7 @@ pub extern "C" fn timing_pulses(
         × Reports first_edition sheet.now horizon width listing.old report.old
         o listing.new report.new }
 {
-    *answer = numbers_of(timing::pulses(sheet, horizon, width, listing, report));
+    *answer = timing::pulses(sheet, horizon, width, listing, report).into();
 }
 
 #[unsafe(no_mangle)]
@@ -131,7 +111,7 @@ pub extern "C" fn timing_pulses_2(
         × Reports second_edition sheet.now horizon width listing.old report.old
         o listing.new report.new }
 {
-    *answer = numbers_of(timing::pulses_2(sheet, horizon, width, listing, report));
+    *answer = timing::pulses_2(sheet, horizon, width, listing, report).into();
 }
 
 // The three numbers are those of the answer to the load.
@@ -146,7 +126,7 @@ pub extern "C" fn timing_load(
     ensures { (o : Outcome) × (answer.new ≡ numbers o)
         × Loads first_edition sheet.now seed n output.old o output.new }
 {
-    *answer = numbers_of(timing::load(sheet, seed, n, output));
+    *answer = timing::load(sheet, seed, n, output).into();
 }
 
 #[unsafe(no_mangle)]
@@ -160,7 +140,7 @@ pub extern "C" fn timing_load_2(
     ensures { (o : Outcome) × (answer.new ≡ numbers o)
         × Loads second_edition sheet.now seed n output.old o output.new }
 {
-    *answer = numbers_of(timing::load_2(sheet, seed, n, output));
+    *answer = timing::load_2(sheet, seed, n, output).into();
 }
 
 // Describes the answer that three numbers stand for.
@@ -175,5 +155,5 @@ pub extern "C" fn timing_describe(
     ensures { (o : Outcome) × (answer.new ≡ numbers o)
         × Describes (from_numbers number place count) text.old o text.new }
 {
-    *answer = numbers_of(timing::describe(answer_of(number, place, count), text));
+    *answer = timing::describe(Answer::from([number, place, count]), text).into();
 }

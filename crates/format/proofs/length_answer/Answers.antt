@@ -1,5 +1,4 @@
 -- `format::length_answer` meets its contract: the output is too short, or it takes the sheet. Assumes nothing.
-use borrow.Author.Rules.{rules}
 use borrow.Author.Tests.{lt-ltb, le-ltb}
 use lib.ListN.{length}
 use Rattle.format.proofs.length_answer.Goals as goal

@@ -1,18 +1,17 @@
--- `load::load_modules` meets its contract. The loop's invariant: the records passed stand in the tables. Assumes nothing.
-use mathlib.Core.Path.{◌≡◌, ◌∙◌}
-use Prim.Native.Nat.{◌-◌, ◌≤◌}
-use native.Mathlib.Omega.{arith}
-use lib.ListN.{length, take}
-use Rattle.sheet.specs.Sheet.{no_module}
-use Rattle.sheet.specs.Enumerate.{each}
-use Rattle.tick.specs.Tables.{modules_in}
-use Rattle.tick.proofs.Tables.{table_same_size, delays_same_size, modules_more}
-use Rattle.load.proofs.Loading.{taken_more}
+-- `load::load_modules` meets its contract. The loop's invariant: the modules passed stand in their rows, with their kinds' starts and flagged, and while none is shared all flags stand. Assumes nothing.
+use Rattle.std.proofs.Common.{◌≡◌, true, false, ℕ, ◌<◌, length}
+use Rattle.level.specs.Table.{start_of}
+use Rattle.model.specs.Passes.{module_in}
+use Rattle.tick.specs.Rows.{row_in}
+use Rattle.tick.specs.Tally.{alone_at, DrivesAlone}
 use Rattle.load.proofs.load_modules.Given as goal
 
 abbrev pub invariant-loop-k : goal.invariant-loop-k
 invariant-loop-k l =
-    (l.k ≤ l.n) × (modules_in l.table l.delays l.k ≡ take l.k l.records) × (length l.table ≡ 2048) × (length l.delays ≡ 256)
-
-abbrev pub decreases-loop-k : goal.decreases-loop-k
-decreases-loop-k l = l.n - l.k
+    record {
+      same_size : length l.rows ≡ length l.modules;
+      put : (j : ℕ) → j < l.k → (row_in l.rows j).module ≡ module_in l.modules j;
+      started : (j : ℕ) → j < l.k → (row_in l.rows j).start ≡ start_of (row_in l.rows j).module.kind;
+      flagged : (j : ℕ) → j < l.k → alone_at l.rows j ≡ true → DrivesAlone l.modules j;
+      none_shared : l.shared ≡ false → (j : ℕ) → j < l.k → alone_at l.rows j ≡ true;
+    }

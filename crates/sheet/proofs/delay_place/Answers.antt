@@ -1,6 +1,5 @@
 -- `sheet::delay_place` meets its contract: after the third input, if the edition has one. Assumes nothing.
 use native.Mathlib.Omega.{arith}
-use borrow.Author.Rules.{rules}
 use Rattle.sheet.proofs.delay_place.Goals as goal
 
 pub returns-then-has_third : goal.returns-then-has_third

@@ -1,5 +1,4 @@
 -- `sheet::event_record` meets its contract, field by field. Assumes nothing.
-use borrow.Author.Rules.{rules}
 use Rattle.sheet.proofs.event_record.Goals as goal
 
 pub returns : goal.returns

@@ -1,5 +1,4 @@
 -- `sheet::third_at` meets its contract: the edition decides whether there is one. Assumes nothing.
-use borrow.Author.Rules.{rules}
 use Rattle.sheet.proofs.third_at.Goals as goal
 
 pub returns-then-has_third : goal.returns-then-has_third

@@ -1,17 +1,11 @@
 -- `timing::load_in` meets its contract: what the check refuses, and then the load. Assumes nothing.
-use mathlib.Core.Bool.{false}
-use Rattle.sheet.specs.Refusal.{rows, checked_by}
-use Rattle.sheet.proofs.Rows.{passed}
+use Rattle.std.proofs.Common.{sym}
+use Rattle.std.proofs.lemmas.Result.{err_from_is_err_and}
 use Rattle.loaded.proofs.Answers.{not_accepted}
 use Rattle.timing.proofs.load_in.Goals as goal
 
-pub returns-in_default : goal.returns-in_default
-returns-in_default c =
+pub returns-in_err-check_in : goal.returns-in_err-check_in
+returns-in_err-check_in c =
     let a = c.args in
-    not_accepted a.edition a.sheet.now a.n a.seed a.output.now c.check_in-checked.result c.check_in-checked.ensures c.in_default.is
-
-pub load-requires : goal.load-requires
-unfolding checked_by
-load-requires c =
-    let a = c.args in
-    (c.requires, passed (rows false a.edition a.sheet.now) _ c.check_in-checked.ensures _ c.in-Ran.is)
+    let p = err_from_is_err_and c.from_residual.result c.from_residual.ensures.1 in
+    rw (p.1, p.2) (not_accepted a.edition a.sheet.now a.n a.seed a.output.now _ (sym c.in_err-check_in.ensures))

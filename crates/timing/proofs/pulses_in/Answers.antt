@@ -1,36 +1,22 @@
 -- `timing::pulses_in` meets its contract: what is refused before the run, what the run refuses, and then the report. Assumes nothing.
-use mathlib.Core.Path.{sym, ap, ◌∙◌, subst}
-use Rattle.sheet.specs.Outcome.{outcome_of}
-use Rattle.network.specs.Run.{RunLeaves}
-use Rattle.pulses.specs.Reporting.{Reports}
-use Rattle.pulses.proofs.Answers.{refused_asked, refused_run, reported}
+use Rattle.std.proofs.Common.{sym}
+use Rattle.std.proofs.lemmas.Result.{err_from_is_err_and}
+use Rattle.pulses.proofs.Answers.{not_run, not_finished, reported}
 use Rattle.timing.proofs.pulses_in.Goals as goal
 
-pub returns-in_default : goal.returns-in_default
-returns-in_default c =
+pub returns-in_err-range_refusal : goal.returns-in_err-range_refusal
+returns-in_err-range_refusal c =
     let a = c.args in
-    let refusal = ap outcome_of c.in_default.is in
-    subst (λ o. Reports a.edition a.sheet.now a.horizon a.width a.listing.now a.report.now o a.listing.now a.report.now) (sym refusal)
-    (refused_asked c.requires a.sheet.now a.horizon a.width a.listing.now a.report.now (sym c.range_refusal-asked.ensures ∙ refusal))
+    let p = err_from_is_err_and c.from_residual.result c.from_residual.ensures.1 in
+    rw (p.1, p.2) (not_run c.requires a.sheet.now a.horizon a.width a.listing.now a.report.now _ c.in_err-range_refusal.ensures)
 
-pub returns-in_default-ran : goal.returns-in_default-ran
-returns-in_default-ran c =
+pub returns-in_err-records : goal.returns-in_err-records
+returns-in_err-records c =
     let a = c.args in
-    let refusal = ap outcome_of c.in_default-ran.is in
-    let in_range = sym c.range_refusal-asked.ensures ∙ ap outcome_of c.in-Ran.is in
-    let ran = c.run-ran in
-    let listed = ran.new.listing in
-    subst (λ o. Reports a.edition a.sheet.now a.horizon a.width a.listing.now a.report.now o listed a.report.now) (sym refusal)
-    (refused_run c.requires a.sheet.now a.horizon a.width a.listing.now a.report.now in_range
-    (subst (λ o. RunLeaves a.edition a.sheet.now a.horizon a.listing.now o listed) refusal ran.ensures))
+    let p = err_from_is_err_and c.from_residual-in_err-records.result c.from_residual-in_err-records.ensures.1 in
+    rw (p.1, p.2) (not_finished c.requires a.sheet.now a.horizon a.width a.listing.now a.report.now (sym c.in_ok-range_refusal.ensures) _ c.in_err-records.ensures)
 
 pub returns : goal.returns
 returns c =
     let a = c.args in
-    let in_range = sym c.range_refusal-asked.ensures ∙ ap outcome_of c.in-Ran.is in
-    let ran = c.run-ran in
-    let listed = ran.new.listing in
-    let finish = ap outcome_of c.in-Ran-ran.is in
-    reported c.requires a.sheet.now a.horizon a.width a.listing.now a.report.now in_range
-    (subst (λ o. RunLeaves a.edition a.sheet.now a.horizon a.listing.now o listed) finish ran.ensures)
-    c.report.ensures
+    reported c.requires a.sheet.now a.horizon a.width a.listing.now a.report.now (sym c.in_ok-range_refusal.ensures) c.in_ok-records.ensures c.report.ensures

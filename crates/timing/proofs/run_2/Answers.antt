@@ -1,15 +1,7 @@
 -- `timing::run_2` meets its contract: the run in the second edition. Assumes nothing.
 use mathlib.Core.Path.{sym, subst}
-use Rattle.sheet.specs.Outcome.{outcome_of}
-use Rattle.network.specs.Run.{RunLeaves}
 use Rattle.format.specs.Accepted.{Known, the_second}
 use Rattle.timing.proofs.run_2.Goals as goal
 
 pub run-requires : goal.run-requires
 run-requires c = subst Known (sym c.second_edition.ensures) the_second
-
-pub returns : goal.returns
-returns c =
-    let a = c.args in
-    let r = c.run in
-    subst (λ e. RunLeaves e a.sheet.now a.horizon a.listing.now (outcome_of r.result) r.new.listing) c.second_edition.ensures r.ensures

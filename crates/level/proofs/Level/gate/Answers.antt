@@ -1,32 +1,12 @@
 -- `level::Level::gate` meets its contract: a gate's entry is what its rule comes to, a constant of parameter 0 and a memory of no values come to 0, a further kind to X.
 -- Assumes nothing.
 use Prim.Native.Nat.{◌%◌, ◌<◌}
-use native.Mathlib.Nat.{mod-lt, zero-div, add_assoc}
+use native.Mathlib.Nat.{mod-lt, add_assoc}
 use native.Mathlib.Omega.{arith}
 use lib.Dec.{lit<}
-use lib.ListN.{get_or-eq_default}
-use Rattle.level.specs.Level.{unknown}
-use Rattle.level.specs.Rule.{gate}
-use Rattle.level.specs.Kind.{rules}
 use Rattle.level.specs.Table.{tables}
-use Rattle.level.proofs.Gates.{of_one, of_two, of_three, of_none, entry_at}
+use Rattle.level.proofs.Gates.{of_one, of_two, of_three, entry_at}
 use Rattle.level.proofs.Level.gate.Goals as goal
-
--- of a gate of one input, of two and of three: its entry is within the tables, and is what its rule comes to
-pub bounds-start : goal.bounds-start
-bounds-start c =
-    let a = c.args in
-    let f : a.first % 4 < 4 = mod-lt _ (lit< tt) in
-    let k = of_one a.kind (omega (arith, c.if-start-lt-START_OF_TWO.true, c.start-start.ensures)) in
-    omega (arith, k.within, c.start-start.ensures)
-
-pub bounds-start-then-start-lt-START_OF_THREE : goal.bounds-start-then-start-lt-START_OF_THREE
-bounds-start-then-start-lt-START_OF_THREE c =
-    let a = c.args in
-    let f : a.first % 4 < 4 = mod-lt _ (lit< tt) in
-    let s : a.second % 4 < 4 = mod-lt _ (lit< tt) in
-    let k = of_two a.kind (omega (arith, c.if-start-lt-START_OF_TWO.false, c.start-start.ensures)) (omega (arith, c.if-start-lt-START_OF_THREE.true, c.start-start.ensures)) in
-    omega (arith, k.within, c.start-start.ensures)
 
 pub bounds-start-then-start-lt-NO_TABLE : goal.bounds-start-then-start-lt-NO_TABLE
 bounds-start-then-start-lt-NO_TABLE c =
@@ -63,15 +43,3 @@ returns-then-start-lt-NO_TABLE c =
     let t : a.third % 4 < 4 = mod-lt _ (lit< tt) in
     let k = of_three a.kind (omega (arith, c.if-start-lt-START_OF_THREE.false, c.start-start.ensures)) (omega (arith, c.if-start-lt-NO_TABLE.true, c.start-start.ensures)) in
     rw (add_assoc, add_assoc, c.start-start.ensures, k.inputs) (entry_at k _ _ (omega arith) (f, (s, (t, tt))) (omega arith))
-
-pub returns-then-kind-eq-CONSTANT : goal.returns-then-kind-eq-CONSTANT
-returns-then-kind-eq-CONSTANT c = rw c.if-kind-eq-CONSTANT.true
-
-pub returns-then-kind-eq-MEMORY : goal.returns-then-kind-eq-MEMORY
-returns-then-kind-eq-MEMORY c = rw (c.if-kind-eq-MEMORY.true, zero-div)
-
-pub returns-else-kind-eq-MEMORY : goal.returns-else-kind-eq-MEMORY
-returns-else-kind-eq-MEMORY c =
-    let kind = c.args.kind in
-    let none : kind < 16 → ⊥ = λ h. c.if-kind-eq-MEMORY.false (of_none kind h (omega (arith, c.if-start-lt-NO_TABLE.false, c.start-start.ensures)) c.if-kind-eq-CONSTANT.false) in
-    rw (get_or-eq_default (rules 0) (gate 0 (λ inputs. unknown)) {n = kind} (omega (arith, none)))

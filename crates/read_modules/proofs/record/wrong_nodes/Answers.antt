@@ -1,57 +1,36 @@
 -- `read_modules::record::wrong_nodes` meets its contract: the test of all nodes, node by node. Assumes nothing.
-use mathlib.Core.Bool.{Bool, ◌||◌, or-false, or_assoc}
-use mathlib.Core.List.{[], ◌∷◌}
-use mathlib.Core.Path.{◌≡◌, sym, ap₂, ◌∙◌}
-use Prim.Native.Nat.{ℕ, zero, suc}
-use native.Mathlib.Omega.{arith}
-use borrow.Author.Tests.{le-leb, lt-leb, lt-ltb}
+use mathlib.Core.Bool.{◌||◌}
+use mathlib.Core.Path.{◌≡◌, sym, ◌∙◌}
+use borrow.Author.Tests.{le-leb, lt-leb}
 use lib.Dec.{leb, ltb}
-use lib.ListN.{take, drop}
-use lib.Seq.{take-nil, drop-nil}
-use Rattle.std.specs.Prelude.{if◌then◌else◌}
-use Rattle.level.specs.Rule.{inputs_of}
-use Rattle.level.specs.Kind.{rule_of}
-use Rattle.sheet.specs.declared.Module.{Module}
-use Rattle.sheet.specs.Enumerate.{any_of}
-use Rattle.sheet.specs.Refusal.{miswired}
+use Rattle.read_modules.proofs.Wiring.{wrong, by_node}
 use Rattle.read_modules.proofs.record.wrong_nodes.Goals as goal
-
--- an input is wrong: used and no node, or unused and not 0
-abbrev wrong : ℕ → Bool → ℕ → Bool
-wrong nodes used node = if used then leb nodes node else ltb 0 node
-
-by_count : (n nodes out a b c : ℕ)
-    → (any_of (leb nodes) (out ∷ take n (a ∷ b ∷ c ∷ [])) || any_of (ltb 0) (drop n (a ∷ b ∷ c ∷ [])))
-    ≡ (leb nodes out || (wrong nodes (ltb 0 n) a || (wrong nodes (ltb 1 n) b || wrong nodes (ltb 2 n) c)))
-by_count zero nodes out a b c = simp or-false
-by_count (suc zero) nodes out a b c = simp (or-false, or_assoc)
-by_count (suc (suc zero)) nodes out a b c = simp (or-false, or_assoc)
-by_count (suc (suc (suc n))) nodes out a b c =
-    ap₂ (λ used unused. any_of (leb nodes) (out ∷ a ∷ b ∷ c ∷ used) || any_of (ltb 0) unused) (take-nil n) (drop-nil n)
-    ∙ simp (lt-ltb 0 (suc (suc (suc n))) (omega arith), lt-ltb 1 (suc (suc (suc n))) (omega arith), lt-ltb 2 (suc (suc (suc n))) (omega arith), or-false)
-
-by_node : (nodes : ℕ) (m : Module) (n : ℕ) → n ≡ inputs_of (rule_of m.kind m.parameter)
-    → miswired nodes m ≡ (leb nodes m.output || (wrong nodes (ltb 0 n) m.first || (wrong nodes (ltb 1 n) m.second || wrong nodes (ltb 2 n) m.third)))
-by_node nodes m n e = rw e (by_count (inputs_of (rule_of m.kind m.parameter)) nodes m.output m.first m.second m.third)
-
-pub returns-then-nodes-m : goal.returns-then-nodes-m
-returns-then-nodes-m c =
-    sym (by_node _ c.args.m _ (c.inputs-n.ensures _) ∙ simp (le-leb _ _ c.if-nodes-m.true))
-
-pub returns-then-wrong_input : goal.returns-then-wrong_input
-returns-then-wrong_input c =
-    sym
-    (by_node _ c.args.m _ (c.inputs-n.ensures _)
-    ∙ simp (lt-leb _ _ c.if-nodes-m.false, ← c.wrong_input.ensures, c.if-wrong_input.true))
+use Rattle.read_modules.proofs.record.wrong_nodes.Goals.{then-nodes-m, else-nodes-m, then-wrong_input, else-wrong_input}
 
 pub returns-then-wrong_input-2 : goal.returns-then-wrong_input-2
 returns-then-wrong_input-2 c =
-    sym
-    (by_node _ c.args.m _ (c.inputs-n.ensures _)
-    ∙ simp (lt-leb _ _ c.if-nodes-m.false, ← c.wrong_input.ensures, c.if-wrong_input.false, ← c.wrong_input-2.ensures, c.if-wrong_input-2.true))
+    let one : c.if-nodes-m.value ≡ (leb c.args.nodes c.args.m.output || wrong c.args.nodes (ltb 0 c.inputs-n.result) c.args.m.first) =
+    elim c.if-nodes-m.branch [
+      | then-nodes-m w ↦ simp (w.value-is, le-leb _ _ w.if-nodes-m.true)
+      | else-nodes-m w ↦ simp (w.value-is, lt-leb _ _ w.if-nodes-m.false, w.wrong_input.ensures)
+    ] in
+    let two : c.if-wrong_input.value ≡ (c.if-nodes-m.value || wrong c.args.nodes (ltb 1 c.inputs-n.result) c.args.m.second) =
+    elim c.if-wrong_input.branch [
+      | then-wrong_input w ↦ simp (w.value-is, w.if-wrong_input.true)
+      | else-wrong_input w ↦ simp (w.value-is, w.if-wrong_input.false, w.wrong_input-else-wrong_input.ensures)
+    ] in
+    sym (by_node _ c.args.m _ (c.inputs-n.ensures _) ∙ simp (← one, ← two, c.if-wrong_input-2.true))
 
-pub returns : goal.returns
-returns c =
-    sym
-    (by_node _ c.args.m _ (c.inputs-n.ensures _)
-    ∙ simp (lt-leb _ _ c.if-nodes-m.false, ← c.wrong_input.ensures, c.if-wrong_input.false, ← c.wrong_input-2.ensures, c.if-wrong_input-2.false, ← c.wrong_input-3.ensures))
+pub returns-else-wrong_input-2 : goal.returns-else-wrong_input-2
+returns-else-wrong_input-2 c =
+    let one : c.if-nodes-m.value ≡ (leb c.args.nodes c.args.m.output || wrong c.args.nodes (ltb 0 c.inputs-n.result) c.args.m.first) =
+    elim c.if-nodes-m.branch [
+      | then-nodes-m w ↦ simp (w.value-is, le-leb _ _ w.if-nodes-m.true)
+      | else-nodes-m w ↦ simp (w.value-is, lt-leb _ _ w.if-nodes-m.false, w.wrong_input.ensures)
+    ] in
+    let two : c.if-wrong_input.value ≡ (c.if-nodes-m.value || wrong c.args.nodes (ltb 1 c.inputs-n.result) c.args.m.second) =
+    elim c.if-wrong_input.branch [
+      | then-wrong_input w ↦ simp (w.value-is, w.if-wrong_input.true)
+      | else-wrong_input w ↦ simp (w.value-is, w.if-wrong_input.false, w.wrong_input-else-wrong_input.ensures)
+    ] in
+    sym (by_node _ c.args.m _ (c.inputs-n.ensures _) ∙ simp (← one, ← two, c.if-wrong_input-2.false, c.wrong_input-else-wrong_input-2.ensures))

@@ -1,42 +1,27 @@
 -- `read_modules::section::modules_section` meets its contract: the section's refusal stands, or the nodes' bytes decide. Assumes nothing.
-use mathlib.Core.Path.{◌≡◌, sym, ◌∙◌}
-use Rattle.sheet.specs.Enumerate.{each}
-use Rattle.sheet.specs.Layout.{nodes_counted}
-use Rattle.sheet.specs.Outcome.{finished, outcome_of}
-use Rattle.sheet.specs.Refusal.{first, modules_section, start_rows}
-use Rattle.sheet.specs.Sections.{rows_of_modules}
-use Rattle.sheet.proofs.Rows.{passed, stopped, went_on}
-use Rattle.read_modules.proofs.Known.{none_known, known_as}
+use mathlib.Core.Path.{sym, ◌∙◌}
+use native.Mathlib.Omega.{arith}
+use Rattle.std.proofs.lemmas.Result.{err_from_is_err_and}
+use Rattle.sheet.specs.Refusal.{modules_section}
+use Rattle.sheet.proofs.Rows.{passed_append}
+use Rattle.sheet.proofs.Told.{stopped}
 use Rattle.read_modules.proofs.StartRows.{start_rows_lem}
 use Rattle.read_modules.proofs.section.modules_section.Goals as goal
 
-pub returns-in_default : goal.returns-in_default
-returns-in_default c =
-    let e = c.args.e in
-    let s = c.args.s.now in
-    let known = c.module_records-read.ensures in
-    known_as e s (rows_of_modules e s) known (stopped (modules_section e s) _ known.section.answered _ _ _ c.in_default.is (each (nodes_counted s) (start_rows e s)))
+pub returns-in_err-read : goal.returns-in_err-read
+returns-in_err-read c =
+    let p = err_from_is_err_and c.from_residual.result c.from_residual.ensures.1 in
+    rw (p.1, p.2) (stopped _ (modules_section c.args.e c.args.s.now) _ c.in_err-read.ensures)
 
-pub returns-in_default-b : goal.returns-in_default-b
-returns-in_default-b c =
-    let e = c.args.e in
-    let s = c.args.s.now in
-    let known = c.module_records-read.ensures in
-    let told = known.section.answered in
-    let none_met : outcome_of c.module_records-read.result.answer ≡ finished 0 = told ∙ passed (modules_section e s) _ told _ c.in-Ran.is in
-    let decided : outcome_of c.first_byte_refusal-b.result ≡ first (rows_of_modules e s) =
-    went_on (modules_section e s) (each (nodes_counted s) (start_rows e s)) _ told _ c.in-Ran.is _
-    (c.first_byte_refusal-b.ensures ∙ start_rows_lem e s c.requires.1 c.requires.2 c.requires.3 c.module_records-read.result.driven (known.driven none_met)) in
-    none_known e s (rows_of_modules e s) c.none_read.ensures c.in_default-b.is decided
+pub returns-in_err-first_byte_refusal : goal.returns-in_err-first_byte_refusal
+returns-in_err-first_byte_refusal c =
+    let known = c.in_ok-read.ensures in
+    let starts = start_rows_lem c.args.e c.args.s.now c.requires.1 c.listed.ensures (omega arith) _ known.1.driven in
+    let p = err_from_is_err_and c.from_residual-in_err-first_byte_refusal.result c.from_residual-in_err-first_byte_refusal.ensures.1 in
+    rw (p.1, p.2) (passed_append (modules_section c.args.e c.args.s.now) _ known.0 ∙ sym starts ∙ sym c.in_err-first_byte_refusal.ensures)
 
 pub returns : goal.returns
 returns c =
-    let e = c.args.e in
-    let s = c.args.s.now in
-    let known = c.module_records-read.ensures in
-    let told = known.section.answered in
-    let none_met : outcome_of c.module_records-read.result.answer ≡ finished 0 = told ∙ passed (modules_section e s) _ told _ c.in-Ran.is in
-    let decided : outcome_of c.first_byte_refusal-b.result ≡ first (rows_of_modules e s) =
-    went_on (modules_section e s) (each (nodes_counted s) (start_rows e s)) _ told _ c.in-Ran.is _
-    (c.first_byte_refusal-b.ensures ∙ start_rows_lem e s c.requires.1 c.requires.2 c.requires.3 c.module_records-read.result.driven (known.driven none_met)) in
-    known_as e s (rows_of_modules e s) known (none_met ∙ sym (passed (rows_of_modules e s) _ decided _ c.in-Ran-b.is))
+    let known = c.in_ok-read.ensures in
+    let starts = start_rows_lem c.args.e c.args.s.now c.requires.1 c.listed.ensures (omega arith) _ known.1.driven in
+    (passed_append (modules_section c.args.e c.args.s.now) _ known.0 ∙ sym starts ∙ sym c.in_ok-first_byte_refusal.ensures, known.1)

@@ -1,13 +1,18 @@
--- `tick::contribution::comes_to` meets its contract: the rule at the module's bytes. Assumes nothing.
-use native.Mathlib.Nat.{add-zero}
-use native.Mathlib.Omega.{arith}
-use Rattle.tick.proofs.Rules.{comes_now}
+-- `tick::contribution::comes_to` meets its contract: what the module of its row comes to. Assumes nothing.
+use mathlib.Core.Path.{◌≡◌, sym, subst}
+use Rattle.level.specs.Table.{start_of}
+use Rattle.tick.specs.declared.row.Row.{Row}
+use Rattle.tick.specs.Rest.{Known}
+use Rattle.tick.proofs.Rows.{row_read, known_at}
 use Rattle.tick.proofs.contribution.comes_to.Goals as goal
 
 pub rule-requires : goal.rule-requires
-rule-requires c = let p = c.requires in (omega (arith, p.0), p.1, rw (add-zero) at p.2, p.3, p.4, rw (add-zero) at p.5)
-
-pub returns : goal.returns
-returns c =
-    let a = c.args in
-    (λ delays n h last e. rw (comes_now a.table.now delays a.values.now last n a.k h, e) c.rule.ensures.0, c.rule.ensures.1)
+rule-requires c =
+    let n = c.args.network in
+    let p = c.requires in
+    let read = sym (row_read n.rows.now c.args.k _ p.0) in (
+      n.gates_kept,
+      subst (λ (r : Row). Known r.module.kind r.module.parameter) read (known_at n.rows.now n.known c.args.k p.0),
+      p.1,
+      subst (λ (r : Row). r.start ≡ start_of r.module.kind) read (n.starts_kept c.args.k p.0),
+    )

@@ -3,7 +3,7 @@ use mathlib.Core.Path.{ap, ◌∙◌}
 use native.Mathlib.Omega.{arith}
 use lib.ListN.{length}
 use Rattle.level.proofs.Gates.{length-tables}
-use Rattle.tick.proofs.Rules.{within, entry_of-part}
+use Rattle.tick.proofs.Parts.{length-part}
 use Rattle.tick.proofs.contribution.entry.Goals as goal
 
 pub slice_bounds-row-count : goal.slice_bounds-row-count
@@ -13,7 +13,4 @@ pub slice_bounds-row-start : goal.slice_bounds-row-start
 slice_bounds-row-start c = let n = ap length c.requires.0 ∙ length-tables in omega (arith, n, c.requires.1)
 
 pub bounds-row-i : goal.bounds-row-i
-bounds-row-i c = within c.args.gates.now c.args.start c.args.i c.requires.0 c.requires.1
-
-pub returns : goal.returns
-returns c = entry_of-part c.args.gates.now c.args.start c.args.i c.requires.0 c.requires.1
+bounds-row-i c = let n = ap length c.requires.0 ∙ length-tables in omega (arith, n, c.requires.1, length-part c.args.gates.now c.args.start)

@@ -1,54 +1,32 @@
 -- `tick::load::load_counts` meets its contract. The loop's invariant: what the modules passed give is counted. Assumes nothing.
-use mathlib.Core.Path.{◌≡◌, ◌∙◌, ap}
-use Prim.Native.Nat.{ℕ, ◌-◌, ◌<◌, ◌≤◌}
+use Prim.Native.Nat.{◌<◌}
 use native.Mathlib.Omega.{arith}
 use borrow.Author.Rules.{rules}
 use lib.Dec.{eqb}
-use lib.ListN.{length, get_or, length-set}
-use Rattle.tick.specs.Tally.{driven_at, CountedAt}
+use lib.ListN.{get_or}
+use Rattle.tick.specs.Tally.{driven_at}
+use Rattle.tick.proofs.Rows.{node_read}
 use Rattle.tick.proofs.Tally.{count_most, counted_more, none_counted}
 use Rattle.tick.proofs.load.load_counts.Goals as goal
 
 pub loop-k-init : goal.loop-k-init
-loop-k-init c = (omega arith, rw c.requires.2 (none_counted c.args.table.now c.args.kept.now), rw c.requires.2 (search rules))
-
-pub overflow_mul-k : goal.overflow_mul-k
-overflow_mul-k c = omega arith
-
-pub overflow_add-k : goal.overflow_add-k
-overflow_add-k c = omega arith
-
-pub bounds-table-k : goal.bounds-table-k
-bounds-table-k c = omega arith
-
-pub bounds-kept-k : goal.bounds-kept-k
-bounds-kept-k c = omega arith
+loop-k-init c = (rw c.requires.2 (search rules), rw c.requires.2 (none_counted c.args.rows.now c.args.kept.now))
 
 pub count_more-requires : goal.count_more-requires
 count_more-requires c =
     let a = c.args in
-    let w = c.wide.ensures in
-    let v = driven_at a.table.now c.loop-k.k in
-    let x = get_or a.kept.now c.loop-k.k 0 in
-    (w.1, c.requires.1.each c.loop-k.k, rw w.0 (omega (arith, c.loop-k.invariant.1 v (rw w.0 at w.1) x (c.requires.1.each c.loop-k.k), count_most (λ j. eqb (driven_at a.table.now j) v) x c.loop-k.k (λ j. get_or a.kept.now j 0))))
-
-pub overflow_add-k-in-loop-k : goal.overflow_add-k-in-loop-k
-overflow_add-k-in-loop-k c = omega arith
-
-pub loop-k-smaller : goal.loop-k-smaller
-loop-k-smaller c = omega arith
+    let k = c.loop-k.k in
+    let w = c.from.ensures in
+    let b : c.from.result < 256 = omega arith in
+    let v = node_read a.rows.now k _ c.loop-k-test.true w in
+    let x = get_or a.kept.now k 0 in
+    (b, c.requires.1.each k, rw v (omega (arith, c.loop-k.invariant.1 (driven_at a.rows.now k) (rw v at b) x (c.requires.1.each k), count_most (λ j. eqb (driven_at a.rows.now j) (driven_at a.rows.now k)) x k (λ j. get_or a.kept.now j 0))))
 
 pub loop-k-preserved : goal.loop-k-preserved
 loop-k-preserved c =
     let a = c.args in
-    let w = c.wide.ensures in
-    let e = c.count_more.ensures in (
-      omega arith,
-      rw (e, w.0) (counted_more a.table.now a.kept.now c.loop-k.counts c.loop-k.invariant.2 c.loop-k.k (rw w.0 at w.1) (c.requires.1.each c.loop-k.k) c.loop-k.invariant.1),
-      ap length e ∙ simp length-set c.loop-k.invariant.2,
-    )
-
-pub returns : goal.returns
-returns c =
-    let e : c.loop-k.k ≡ c.args.n = omega arith in
-    rw (← e) (c.loop-k.invariant.1, c.loop-k.invariant.2)
+    let k = c.loop-k.k in
+    let w = c.from.ensures in
+    let b : c.from.result < 256 = omega arith in
+    let v = node_read a.rows.now k _ c.loop-k-test.true w in
+    (c.count_more.array_long, rw (c.count_more.ensures, v) (counted_more a.rows.now a.kept.now c.loop-k.counts c.loop-k.invariant.0 k (rw v at b) (c.requires.1.each k) c.loop-k.invariant.1))

@@ -1,7 +1,0 @@
--- `gate_tables::rule::nor` meets its contract. Assumes nothing.
-use mathlib.Core.Path.{ap, ◌∙◌}
-use Rattle.level.specs.Gate.{inverse}
-use Rattle.gate_tables.proofs.rule.nor.Goals as goal
-
-pub returns : goal.returns
-returns c = c.inverse.ensures ∙ ap inverse c.or.ensures

@@ -1,7 +1,0 @@
--- `timing_c::timing_run_2` meets its contract: the three numbers are those of the run's answer. Assumes nothing.
-use Rattle.timing_c.proofs.timing_run_2.Goals as goal
-
-pub returns : goal.returns
-returns c =
-    let r = c.run_2.ensures in
-    (_, c.numbers_of.ensures, r)
