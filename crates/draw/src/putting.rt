@@ -43,7 +43,8 @@ fn put_later(out: &mut Writer, inputs: &[u8], draws: &mut Draws, n: u32)
     }
 }
 
-// Puts the drive's section: the count of its events, and the events. That they fit a drive is asked of inputs and count, which no type holds both.
+// Puts the drive's section: the count of its events, and the events. That they fit a drive is asked, and is no fact of a type that holds inputs and
+// count: of a load it is true only once 26 is past.
 pub fn put_drive(out: &mut Writer, inputs: &[u8], seed: u32, n: u32)
     requires { (length inputs.now + n ≤ 1024) × (0 < n → 0 < length inputs.now) }
     ensures { Puts (drive_bytes (drawn_drive inputs.now seed n)) out.old out.new }

@@ -99,7 +99,8 @@ pub fn convert_2_to_1(sheet: &[u8], output: &mut [u8]) -> Answer
     ))
 }
 
-// Reports the pulses of a sheet of an edition that are shorter than a width: the refusals of horizon and width, the run, and then the report.
+// Reports the pulses of a sheet of an edition that are shorter than a width: the refusals of horizon and width, the run, and then the report. It
+// takes what the two calls take that it stands behind, which the header fixes.
 fn pulses_in(
     edition: Edition,
     sheet: &[u8],
