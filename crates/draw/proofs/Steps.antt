@@ -1,4 +1,4 @@
--- What the steps of drawing and writing come to: three draws in a row are an event, a tick is two numbers of two bytes, and the parts of a drive's section.
+-- What the steps of drawing and writing come to: three draws in a row are an event, and the parts of a drive's section.
 -- Assumes nothing.
 use Rattle.std.proofs.Common.{◌≡◌, ℕ, suc, ◌+◌, ◌%◌, List, ◌++◌, length, get_or, sym, ap, ◌∙◌, ap₂, add-one, append_assoc, arith}
 use Rattle.sheet.specs.declared.Event.{Event}

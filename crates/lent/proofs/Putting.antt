@@ -1,4 +1,4 @@
--- A text that bytes are printed into: nothing printed yet, a byte that fits, a byte that is cut off, and one step after another. Assumes nothing.
+-- A text that bytes are printed into: nothing printed yet, a byte that fits, and one step after another. Assumes nothing.
 use mathlib.Core.List.{List, [], ◌∷◌, ◌++◌, append_assoc, append-nil}
 use mathlib.Core.Path.{◌≡◌, refl, sym, ap, ◌∙◌}
 use Prim.Native.Nat.{ℕ, suc, ◌+◌, ◌<◌, ◌≤◌}
@@ -71,10 +71,10 @@ prints_then {xs} {ys} f g start bytes p = rw (← append_assoc) (g start (bytes 
 
 -- the same of a writer, whose text stays the one that was lent
 pub puts_none : (w : Writer) → Puts [] w w
-puts_none w = record { lent = refl; prints = prints_none w.text.now w.at }
+puts_none w = record { lent = refl; size = refl; prints = prints_none w.text.now w.at }
 
 pub puts_then : {xs ys : List ℕ} {w₀ w₁ w₂ : Writer} → Puts xs w₀ w₁ → Puts ys w₁ w₂ → Puts (xs ++ ys) w₀ w₂
-puts_then f g = record { lent = g.lent ∙ f.lent; prints = prints_then f.prints g.prints }
+puts_then f g = record { lent = g.lent ∙ f.lent; size = g.size ∙ f.size; prints = prints_then f.prints g.prints }
 
 -- what a writer puts from a text's start is printed into that text
 pub from_start : {more : List ℕ} {w₀ w₁ : Writer} → w₀.at ≡ 0 → Puts more w₀ w₁ → Printed w₀.text.now more w₁.text.now w₁.at

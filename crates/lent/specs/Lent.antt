@@ -20,7 +20,8 @@ pub record Printed (start bytes text : List ℕ) (at : ℕ) : Type 0 where
 abbrev pub Prints : List ℕ → List ℕ → ℕ → List ℕ → ℕ → Type 0
 Prints more text at text' at' = (start bytes : List ℕ) → Printed start bytes text at → Printed start (bytes ++ more) text' at'
 
--- a step puts further bytes into the lent text, which stays the one that its owner lent
+-- a step puts further bytes into the lent text, which stays the one that its owner lent, and as long as it was, wherever the next byte's place is
 pub record Puts (more : List ℕ) (old new : Writer) : Type 0 where
   pub lent : new.text.ghost_name ≡ old.text.ghost_name
+  pub size : length new.text.now ≡ length old.text.now
   pub prints : Prints more old.text.now old.at new.text.now new.at

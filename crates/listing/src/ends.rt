@@ -46,10 +46,10 @@ impl Listing<'_> {
         self.written = n + 1;
     }
 
-    // The values that the watched nodes still have end at a tick.
+    // The values that the watched nodes still have end at a tick. The count of records is not looked at: it may be any.
     pub fn end_all(&mut self, watched: &[u8], end: u32)
-        requires { Held self.old }
-        ensures ended { (buffer : List ℕ) (records : List Record) → Holding buffer records self.old
+        requires { (n : ℕ) × Held (record self.old { written = n }) }
+        ensures ended { (buffer : List ℕ) (records : List Record) (n : ℕ) → Holding buffer records (record self.old { written = n })
             → self.new.bytes.now ≡ buffer_after (with_ends (ends_for watched.now end (length watched.now)) records) buffer }
         ensures rest { self.new ≡ record self.old { bytes = self.new.bytes } }
         ensures lent { self.new.bytes.ghost_name ≡ self.old.bytes.ghost_name }

@@ -1,6 +1,7 @@
 // The pulses that a listing's records show. A record has both ends of its stretch: one pass counts the pulses, and one puts them.
 ghost use Rattle.std.specs.Prelude.{List, ◌≡◌, length};
 ghost use Rattle.sheet.specs.Told.{answer_in};
+ghost use Rattle.format.specs.Encode.{long_bytes};
 ghost use Rattle.format.specs.Made.{written_answer};
 ghost use Rattle.lent.specs.Lent.{Puts};
 ghost use Rattle.listing.specs.Record.{record_of};
@@ -10,7 +11,7 @@ ghost use Rattle.pulses.specs.InListing.{pulse_in, pulses_in};
 ghost use Rattle.pulses.specs.Reporting.{report_of};
 
 use lent::Writer;
-use listing::{Listed, record_at};
+use listing::{Listed, record_at, write_long};
 use sheet::Refusal;
 
 const PULSE_SIZE: usize = 9;
@@ -25,13 +26,26 @@ pub(crate) fn room_answer(pulses: u32, records: u32, bytes: usize) -> Result<u32
     Ok(pulses)
 }
 
+// Puts a number of four bytes, the low byte first. Where there is room for all of them they are written at once.
+fn put_long(out: &mut Writer, n: u32)
+    ensures { Puts (long_bytes n) out.old out.new }
+{
+    let room = out.text.len();
+    if 4 <= room && out.at <= room - 4 {
+        write_long(out.text, out.at, n);
+        out.at += 4;
+        return;
+    }
+    out.put_all(&n.to_le_bytes());
+}
+
 // Puts a record's pulse: start tick, node, length.
 fn put_pulse(out: &mut Writer, listed: Listed)
     ensures { Puts (pulse_bytes (pulse_of listed.tick listed.node listed.end)) out.old out.new }
 {
-    out.put_all(&listed.tick.to_le_bytes());
+    put_long(out, listed.tick);
     out.put(listed.node);
-    out.put_all(&listed.end.saturating_sub(listed.tick).to_le_bytes());
+    put_long(out, listed.end.saturating_sub(listed.tick));
 }
 
 // A listing of n records, run to a horizon, and the width that its pulses are to be shorter than.

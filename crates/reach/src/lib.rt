@@ -1,7 +1,7 @@
 // Zero-delay links between nodes, which node leads to which over them, and the least node on a zero-delay loop.
 #![tactic(auto)]
 
-ghost use Rattle.std.specs.Prelude.{false, ◌&&◌, ◌≡◌, ℕ, ◌<◌, ◌≤◌, min, eqb, get_or, length, take};
+ghost use Rattle.std.specs.Prelude.{false, [], ◌&&◌, ◌≡◌, ℕ, ◌<◌, ◌≤◌, min, eqb, get_or, length, replicate, take};
 ghost use Rattle.sheet.specs.Limits.{most_nodes, most_modules};
 ghost use Rattle.sheet.specs.Enumerate.{each};
 ghost use Rattle.sheet.specs.Sheet.{Sheet, node_count};
@@ -17,6 +17,23 @@ pub type Matrix = [[bool; NODES]; NODES];
 
 // No node leads anywhere: what a matrix begins as.
 pub const UNLINKED: Matrix = [[false; NODES]; NODES];
+
+// A node leads nowhere.
+fn clear_row(row: &mut [bool; NODES])
+    ensures { row.new ≡ replicate most_nodes false }
+{
+    *row = [false; NODES];
+}
+
+// No node leads anywhere, whatever the matrix held. Row by row: `*reach = UNLINKED` made a second matrix on the stack and copied it, which took a
+// check of a small sheet a third more time.
+fn clear(reach: &mut Matrix)
+    ensures { (u : ℕ) → u < most_nodes → get_or reach.new u [] ≡ replicate most_nodes false }
+{
+    for row in reach.iter_mut() {
+        clear_row(row);
+    }
+}
 
 // The first modules of a list, as many as a sheet may have.
 #[tactic(auto, using(std::proofs::lemmas::List::take_min))]
@@ -106,7 +123,7 @@ fn close(reach: &mut Matrix, n: usize)
 pub fn closure(reach: &mut Matrix, modules: &[Module], nodes: u16)
     ensures { (S : Sheet) → Network modules.now nodes S → Holds reach.new (leads_over S (node_count S)) }
 {
-    *reach = UNLINKED;
+    clear(reach);
     mark_modules(reach, cut(modules));
     close(reach, nodes.min(MOST_NODES) as usize);
 }

@@ -1,4 +1,4 @@
--- Reading a section: its count is read, then its records one by one, which fill an array until a row is met. One law for both sections. Assumes nothing.
+-- Reading a section: its count is read, then its records one by one, which fill an array until a row is met. One law for all sections but the modules'. Assumes nothing.
 use mathlib.Core.List.{List, [], ◌∷◌, ◌++◌, append_assoc}
 use mathlib.Core.Path.{◌≡◌, sym, ◌∙◌}
 use Prim.Native.Nat.{ℕ, suc, ◌+◌, ◌-◌, ◌<◌, ◌≤◌}

@@ -1,3 +1,3 @@
--- What the checks of a section's count and of its records tell.
+-- What reading a section and the checks of its records tell.
 pub mod Told
 pub mod Rising

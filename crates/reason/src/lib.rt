@@ -52,8 +52,9 @@ fn put_unlisted(out: &mut Writer, number: u32)
     put_sort(out, Sort::Bare);
 }
 
-// Document 02's table: what is wrong by refusals 1 to 26, in order, and the sort of the place.
-const PHRASES: [(&[u8], Sort); 26] = [
+// Document 02's table: what is wrong by refusals 1 to 26, in order, and the sort of the place. It stands in three parts: a constant array that holds
+// references is made anew on the stack where it is read, and as one array of all rows it took a third of a sentence's time.
+const FIRST_PHRASES: [(&[u8], Sort); 9] = [
     (b"the horizon is not from 1 to 1,000,000 ticks", Sort::Bare),
     (
         b"the sheet's bytes end inside a count or a record",
@@ -84,6 +85,9 @@ const PHRASES: [(&[u8], Sort); 26] = [
         b"a module drives a node that an earlier module drives already",
         Sort::Byte,
     ),
+];
+
+const MIDDLE_PHRASES: [(&[u8], Sort); 9] = [
     (
         b"a driven node is marked as an input, or an undriven node has an initial value",
         Sort::Node,
@@ -108,6 +112,9 @@ const PHRASES: [(&[u8], Sort); 26] = [
         b"one or more modules of delay 0 form a closed chain",
         Sort::Node,
     ),
+];
+
+const LAST_PHRASES: [(&[u8], Sort); 8] = [
     (
         b"the listing has no room for all records of a tick",
         Sort::Tick,
@@ -143,10 +150,16 @@ const PHRASES: [(&[u8], Sort); 26] = [
 fn phrase(number: u32) -> Option<(&'static [u8], Sort)>
     ensures { MatchOption result (reason number ≡ unlisted_reason number) (λ p. reason number ≡ p.0.now ++ letters (before p.1)) }
 {
-    if number == 0 || number as usize > PHRASES.len() {
+    if number == 0 || number > 26 {
         return None;
     }
-    Some(PHRASES[number as usize - 1])
+    if number <= 9 {
+        return Some(FIRST_PHRASES[number as usize - 1]);
+    }
+    if number <= 18 {
+        return Some(MIDDLE_PHRASES[number as usize - 10]);
+    }
+    Some(LAST_PHRASES[number as usize - 19])
 }
 
 // Puts what a refusal's number says, up to its place.

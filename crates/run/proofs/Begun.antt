@@ -18,7 +18,7 @@ use Rattle.sheet.specs.Refusal.{bytes_rows, loops_section, rows, first, checked_
 use Rattle.sheet.specs.Told.{as_refused}
 use Rattle.sheet.proofs.Rows.{passed_append, finished≢refused}
 use Rattle.sheet.proofs.Tests.{fails, tells_lt, tells_eq, tells_or, at_most}
-use Rattle.sheet.proofs.Told.{is_refused, not_finished, stopped}
+use Rattle.sheet.proofs.Told.{is_refused, stopped}
 use Rattle.network.specs.Buffer.{buffer_after}
 use Rattle.network.specs.Run.{wrote, is_horizon_outside, ran, ran_sheet, Leaves, RunLeaves}
 use Rattle.network.proofs.Runs.{ran-outside, ran_refused, ran_sheet_lem}
@@ -28,16 +28,16 @@ abbrev answer_if : Bool → Outcome
 answer_if out = if out then refused 1 0 0 else finished 0
 
 -- a horizon that passes is in its range
-in_range : (horizon : ℕ) → finished 0 ≡ horizon_answer horizon → is_horizon_outside horizon ≡ false
+pub in_range : (horizon : ℕ) → finished 0 ≡ horizon_answer horizon → is_horizon_outside horizon ≡ false
 in_range horizon e = by (is_horizon_outside horizon) refl
   where
     by : (b : Bool) → is_horizon_outside horizon ≡ b → is_horizon_outside horizon ≡ false
     by true out = absurd (finished≢refused (e ∙ ap answer_if out))
     by false range = range
 
-pub within : (horizon : ℕ) → finished 0 ≡ horizon_answer horizon → (0 < horizon) × (horizon ≤ greatest_horizon)
-within horizon e =
-    let out = (fails (is_horizon_outside horizon) (tells_or (eqb horizon 0) (ltb greatest_horizon horizon) (tells_eq horizon 0) (tells_lt greatest_horizon horizon))).0 (in_range horizon e) in
+pub within : (horizon : ℕ) → is_horizon_outside horizon ≡ false → (0 < horizon) × (horizon ≤ greatest_horizon)
+within horizon range =
+    let out = (fails (is_horizon_outside horizon) (tells_or (eqb horizon 0) (ltb greatest_horizon horizon) (tells_eq horizon 0) (tells_lt greatest_horizon horizon))).0 range in
     let some : horizon ≡ 0 → ⊥ = λ e. out (inl e) in
     (omega (arith, some), at_most (λ h. out (inr h)))
 
@@ -46,24 +46,30 @@ module _ (E : Edition) (s : List ℕ) (horizon : ℕ) (buffer : List ℕ) where
   nothing_written : (o : Outcome) → ran E s horizon (length buffer) ≡ wrote o [] → RunLeaves E s horizon buffer o buffer
   nothing_written o e = record { answered = sym (ap (λ w. w.answer) e); left = sym (ap (λ w. buffer_after w.records buffer) e ∙ buffer-none buffer) }
 
-  -- a horizon that is refused
-  pub range_refused : (r : Refusal) → as_refused r ≡ horizon_answer horizon → RunLeaves E s horizon buffer (as_refused r) buffer
-  range_refused r e = by (is_horizon_outside horizon) refl
+  -- a horizon that is refused, by any answer
+  pub range_refused : (o : Outcome) → o ≡ horizon_answer horizon → {n p k : ℕ} → o ≡ refused n p k → RunLeaves E s horizon buffer o buffer
+  range_refused o e told = by (is_horizon_outside horizon) refl
     where
-      by : (b : Bool) → is_horizon_outside horizon ≡ b → RunLeaves E s horizon buffer (as_refused r) buffer
-      by true out = nothing_written (as_refused r) (ran-outside E s horizon (length buffer) out ∙ ap (λ o. wrote o []) (sym (e ∙ ap answer_if out)))
-      by false range = absurd (not_finished r (sym (e ∙ ap answer_if range)))
+      by : (b : Bool) → is_horizon_outside horizon ≡ b → RunLeaves E s horizon buffer o buffer
+      by true out = nothing_written o (ran-outside E s horizon (length buffer) out ∙ ap (λ x. wrote x []) (sym (e ∙ ap answer_if out)))
+      by false range = absurd (finished≢refused (sym (e ∙ ap answer_if range) ∙ told))
 
-  module _ (passed : finished 0 ≡ horizon_answer horizon) where
-    -- a sheet that is refused
-    pub not_accepted : (r : Refusal) → checked E s ≡ as_refused r → RunLeaves E s horizon buffer (as_refused r) buffer
-    not_accepted r e =
-        let h = is_refused r in
-        nothing_written (as_refused r) (ran_refused E s horizon (length buffer) (in_range horizon passed) (e ∙ h.3) ∙ ap (λ o. wrote o []) (sym h.3))
+  -- by the code's refusal
+  pub range_told : (r : Refusal) → as_refused r ≡ horizon_answer horizon → RunLeaves E s horizon buffer (as_refused r) buffer
+  range_told r e = range_refused (as_refused r) e (is_refused r).3
+
+  module _ (range : is_horizon_outside horizon ≡ false) where
+    -- a sheet that is refused, by any answer
+    pub not_accepted : (o : Outcome) → o ≡ checked E s → {n p k : ℕ} → o ≡ refused n p k → RunLeaves E s horizon buffer o buffer
+    not_accepted o e told = nothing_written o (ran_refused E s horizon (length buffer) range (sym e ∙ told) ∙ ap (λ x. wrote x []) (sym told))
+
+    -- by the code's refusal
+    pub refusal_told : (r : Refusal) → checked E s ≡ as_refused r → RunLeaves E s horizon buffer (as_refused r) buffer
+    refusal_told r e = not_accepted (as_refused r) (sym e) (is_refused r).3
 
     -- one that is accepted
     pub accepted_leaves : checked E s ≡ finished 0 → {o : Outcome} {after : List ℕ} → Leaves (ran_sheet (sheet_of E s) horizon (length buffer)) buffer o after → RunLeaves E s horizon buffer o after
-    accepted_leaves ok {o} {after} l = subst (λ w. Leaves w buffer o after) (sym (ran_sheet_lem E s horizon (length buffer) (in_range horizon passed) ok)) l
+    accepted_leaves ok {o} {after} l = subst (λ w. Leaves w buffer o after) (sym (ran_sheet_lem E s horizon (length buffer) range ok)) l
 
 -- the check meets the bytes' refusals first, and then a zero-delay loop
 module _ (E : Edition) (s : List ℕ) where

@@ -52,7 +52,7 @@ pub record BetweenTicks (S : Sheet) (network : Network) (st : State arrangement)
   pub within : t ≤ network.horizon
   pub driven : carried.next ≡ next_event S.drive t
   pub state : kept network carried listing ≡ state_at arrangement S network.horizon st t
-  pub few : arrangement.count carried.ahead.pending ≤ pending_limit
+  pub few : arrangement.count carried.ahead.pending.kept ≤ pending_limit
   pub tallied : TalliedIn network carried.present
   pub holding : Holding buffer (records_below arrangement S network.horizon st t) listing
   pub bounded : listing.written ≤ 256 * t
@@ -132,17 +132,18 @@ module _ {S : Sheet} {network : Network} {first : Carried} {watched : List ℕ} 
 
     module _ (h : t < horizon) where
       -- each change that is due is of a module in the rows
-      due_placed : Placed (length network.rows.now) (arrangement.due before.ahead.pending t)
+      due_placed : Placed (length network.rows.now) (arrangement.due before.ahead.pending.kept t)
       due_placed x m =
           let s = standing in
           let holds = subst (λ k. arrangement.Holds k s.held) (sym (ap (λ x. x.pending) G.state)) s.holds in
-          let in_held = ((arrangement.tells_due before.ahead.pending s.held t holds x).0 m).0 in
+          let in_held = ((arrangement.tells_due before.ahead.pending.kept s.held t holds x).0 m).0 in
           let o = s.owing.owed x in_held in
           omega (arith, delayed_listed S o.0 o.2.delayed, ap (λ (y : Change). y.position) o.3, length_modules network.rows.now, ap length R.modules, module_total S)
 
       pub workable : Workable network t before
       workable =
           record {
+            starts_kept = rw (R.modules, ap (λ x. x.starts) G.state) standing.starts;
             apart = λ e k l m. apart_here e k l (rw (length_modules network.rows.now) m);
             next = rw R.drive G.driven;
             few_pending = G.few;
@@ -164,8 +165,8 @@ module _ {S : Sheet} {network : Network} {first : Carried} {watched : List ℕ} 
         abbrev bare : Loaded
         bare = record { drive = S.drive; modules = in_working_order S; delayed = delayed_count S; watched = [] }
 
-        same_work : worked_from network t before ≡ worked_tick bare horizon t (settled network.rows.now before.present) before.ahead.last before.ahead.pending
-        same_work = ap (λ l. worked_tick l horizon t (settled network.rows.now before.present) before.ahead.last before.ahead.pending) (rw (R.drive, R.modules, R.delayed) refl)
+        same_work : worked_from network t before ≡ worked_tick bare horizon t (settled network.rows.now before.present) before.ahead.last before.ahead.pending.kept
+        same_work = ap (λ l. worked_tick l horizon t (settled network.rows.now before.present) before.ahead.last before.ahead.pending.kept) (rw (R.drive, R.modules, R.delayed) refl)
 
         -- the model's state after the tick
         abbrev next_state : State arrangement
@@ -174,11 +175,11 @@ module _ {S : Sheet} {network : Network} {first : Carried} {watched : List ℕ} 
         values_next : after.present.values ≡ next_state.values
         values_next = W.values_worked ∙ ap (λ x. x.values) same_work
 
-        pending_next : after.ahead.pending ≡ (state_at arrangement S horizon st (suc t)).pending
+        pending_next : after.ahead.pending.kept ≡ (state_at arrangement S horizon st (suc t)).pending
         unfolding state_at
         pending_next = W.pending_worked ∙ ap (λ x. x.pending) same_work ∙ ap (λ x. (tick_of arrangement S horizon t x).state.pending) G.state
 
-        pending_now : arrangement.count (state_at arrangement S horizon st (suc t)).pending ≡ arrangement.count after.ahead.pending
+        pending_now : arrangement.count (state_at arrangement S horizon st (suc t)).pending ≡ arrangement.count after.ahead.pending.kept
         pending_now = ap arrangement.count (sym pending_next)
 
         these_records : these ≡ (tick_of arrangement S horizon t (state_at arrangement S horizon st t)).records
@@ -219,14 +220,14 @@ module _ {S : Sheet} {network : Network} {first : Carried} {watched : List ℕ} 
           few_left = omega (arith, few_written, network.few_ticks)
 
           -- 20: too many changes pending, and what lasts ends at the tick after
-          pub told_crowded : pending_limit < arrangement.count after.ahead.pending
+          pub told_crowded : pending_limit < arrangement.count after.ahead.pending.kept
               → (n : ℕ) → n ≡ now.written → (bytes : List ℕ) → bytes ≡ buffer_after (with_ends (ends_for watched (t + 1) (length watched)) (below (suc t))) buffer → Ended bytes (refused 20 t n)
           told_crowded many n e bytes left =
               ended bytes n (suc t) (refused 20 t) h (e ∙ all_held.counted) (left ∙ ap (λ k. buffer_after (with_ends (ends_for watched k (length watched)) (below (suc t))) buffer) (add-one t))
               (crowded R.accepted horizon st R.begun (length buffer) t h G.passed (rw below_length fits) (rw pending_now many))
 
           -- on to the next tick
-          module _ (few : arrangement.count after.ahead.pending ≤ pending_limit) where
+          module _ (few : arrangement.count after.ahead.pending.kept ≤ pending_limit) where
             shown_next : now.values ≡ next_state.shown
             shown_next = D.now_shown ∙ ap₂ (λ values nodes. show_all values written.values nodes) values_next R.watched_there
 

@@ -23,7 +23,7 @@ kept network carried listing =
       last = carried.ahead.last;
       shown = listing.values;
       starts = starts_in network.rows.now;
-      pending = carried.ahead.pending;
+      pending = carried.ahead.pending.kept;
     }
 
 pub record Ready (S : Sheet) (network : Network) (carried : Carried) (watched : List ℕ) (listing : Listing) : Type 0 where

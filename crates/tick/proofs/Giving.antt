@@ -96,7 +96,7 @@ module _ (rows : List Row) where
           ∙ rw alone (get_or-set_same values v value 0 node)
           ))
 
-    -- with others, all of which are flagged too
+    -- with others, none of which has a flag either
     module _ (others : alone_at rows k ≡ false) (room : k < length kept) where
       flagged_too : (j : ℕ) → j < n → driven_at rows j ≡ v → alone_at rows j ≡ false
       flagged_too j l e = by (alone_at rows j) refl

@@ -53,7 +53,7 @@ one_more counts v x = set counts (4 * v + x) (count_at counts v x + 1)
 abbrev pub CountedAt : List Row → ℕ → List ℕ → List ℕ → ℕ → Type 0
 CountedAt rows n kept counts v = (x : ℕ) → x < 4 → count_at counts v x ≡ count_of x (present_in rows n kept v)
 
--- flags that may be relied on, one that tells whether there is any, and counts of every node of which a driver is flagged
+-- flags that may be relied on, one that tells whether any module has none, and counts of every node of which a driver has none
 pub record Tallied (rows : List Row) (shared : Bool) (kept counts : List ℕ) : Type 0 where
   pub few : length rows ≤ most_modules
   pub size : length counts ≡ counts_size

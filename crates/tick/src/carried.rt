@@ -6,7 +6,7 @@ use pending::Pending;
 use sheet::{MODULES, NODES};
 
 // The nodes' values; and of the modules that share a node what each gives at present, and how many of its drivers give each value.
-#[derive(Drop)]
+#[derive(Clone, Copy)]
 pub struct Present {
     pub values: [u8; NODES],
     pub kept: [u8; MODULES],
@@ -16,7 +16,7 @@ pub struct Present {
 }
 
 // The value that each delayed module came to last, and the changes that are pending.
-#[derive(Drop)]
+#[derive(Clone, Copy)]
 pub struct Ahead {
     pub last: [u8; MODULES],
     pub pending: Pending,
@@ -24,7 +24,7 @@ pub struct Ahead {
 }
 
 // These, and the first event that is not before the next tick.
-#[derive(Drop)]
+#[derive(Clone, Copy)]
 pub struct Carried {
     pub present: Present,
     pub ahead: Ahead,

@@ -11,10 +11,10 @@ use crate::fixed::Network;
 
 // Schedules what the module at position k comes to.
 fn schedule_one(network: Network, k: usize, t: u32, present: &Present, ahead: &mut Ahead)
-    requires { (k < length network.rows.now) × (t < network.horizon) × (arrangement.count ahead.old.pending < pending_room) }
+    requires { (k < length network.rows.now) × (t < network.horizon) × (arrangement.count ahead.old.pending.kept < pending_room) }
     ensures { (scheduled ahead.new
         ≡ schedule_one arrangement (modules_in network.entry.rows.now) t network.entry.horizon present.now.values (scheduled ahead.old) k)
-        × (arrangement.count ahead.new.pending ≤ arrangement.count ahead.old.pending + 1) }
+        × (arrangement.count ahead.new.pending.kept ≤ arrangement.count ahead.old.pending.kept + 1) }
 {
     let value = comes_to(network, k, present, ahead.last[k]);
     if value == ahead.last[k] {
@@ -29,11 +29,11 @@ fn schedule_one(network: Network, k: usize, t: u32, present: &Present, ahead: &m
 
 // Schedules what the delayed modules come to.
 pub(crate) fn schedule_all(network: Network, t: u32, present: &Present, ahead: &mut Ahead)
-    requires { (t < network.horizon) × (arrangement.count ahead.old.pending + network.delayed ≤ pending_room) }
+    requires { (t < network.horizon) × (arrangement.count ahead.old.pending.kept + network.delayed ≤ pending_room) }
     ensures { (scheduled ahead.new
         ≡ schedule arrangement (modules_in network.entry.rows.now) t network.entry.horizon present.now.values network.entry.delayed
         (scheduled ahead.old))
-        × (arrangement.count ahead.new.pending ≤ arrangement.count ahead.old.pending + network.entry.delayed) }
+        × (arrangement.count ahead.new.pending.kept ≤ arrangement.count ahead.old.pending.kept + network.entry.delayed) }
 {
     // By position, since what a module came to last stands at its position too, and a change names it.
     for k in 0..network.delayed {

@@ -14,11 +14,11 @@ use pending::{Met, Pending};
 // Gives the changes due at tick t, each as what its module contributes from now on. The others stay pending. The loop counts nothing; an iterator
 // over those due would be a loop in the pass, which is slower (docs/DECISIONS.md, "Measures").
 pub(crate) fn give_due(network: Network, t: u32, pending: &mut Pending, present: &mut Present)
-    requires { Placed (length network.rows.now) (arrangement.due pending.old t) × TalliedIn network present.old }
+    requires { Placed (length network.rows.now) (arrangement.due pending.old.kept t) × TalliedIn network present.old }
     ensures { (settled network.entry.rows.now present.new
-        ≡ give_all (modules_in network.entry.rows.now) (arrangement.due pending.old t) (settled network.entry.rows.now present.old))
-        × (pending.new ≡ arrangement.rest pending.old t)
-        × (arrangement.count pending.new ≤ arrangement.count pending.old) × TalliedIn network.entry present.new }
+        ≡ give_all (modules_in network.entry.rows.now) (arrangement.due pending.old.kept t) (settled network.entry.rows.now present.old))
+        × (pending.new.kept ≡ arrangement.rest pending.old.kept t)
+        × (arrangement.count pending.new.kept ≤ arrangement.count pending.old.kept) × TalliedIn network.entry present.new }
 {
     let mut scan = pending.from_start();
     loop {

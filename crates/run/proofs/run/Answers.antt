@@ -13,14 +13,14 @@ use Rattle.network.specs.Run.{ran_sheet, Leaves}
 use Rattle.network.proofs.WorkingOrder.{every_module_once}
 use Rattle.reach.proofs.Held.{network_held}
 use Rattle.records.proofs.Working.{working_records}
-use Rattle.run.proofs.Begun.{within, range_refused, bytes_refused, loops_checked, not_accepted, accepted_leaves}
+use Rattle.run.proofs.Begun.{in_range, within, range_told, bytes_refused, loops_checked, refusal_told, accepted_leaves}
 use Rattle.run.proofs.run.Goals as goal
 
 pub returns-in_err-horizon_answer : goal.returns-in_err-horizon_answer
 returns-in_err-horizon_answer c =
     let a = c.args in
     let p = err_from_is_err_and c.from_residual.result c.from_residual.ensures.1 in
-    rw (p.1, p.2) (range_refused a.edition a.bytes.now a.horizon a.listing.now c.in_err-horizon_answer.field-0.0 c.in_err-horizon_answer.ensures)
+    rw (p.1, p.2) (range_told a.edition a.bytes.now a.horizon a.listing.now c.in_err-horizon_answer.field-0.0 c.in_err-horizon_answer.ensures)
 
 pub returns-in_err-contents : goal.returns-in_err-contents
 returns-in_err-contents c =
@@ -28,7 +28,7 @@ returns-in_err-contents c =
     let s = a.bytes.now in
     let p = err_from_is_err_and c.from_residual-in_err-contents.result c.from_residual-in_err-contents.ensures.1 in
     rw (p.1, p.2)
-    (not_accepted a.edition s a.horizon a.listing.now c.in_ok-horizon_answer.ensures c.in_err-contents.field-0.0 (bytes_refused a.edition s _ c.in_err-contents.ensures))
+    (refusal_told a.edition s a.horizon a.listing.now (in_range a.horizon c.in_ok-horizon_answer.ensures) c.in_err-contents.field-0.0 (bytes_refused a.edition s _ c.in_err-contents.ensures))
 
 -- once the bytes' refusals are passed, the sheet is held, and the answer about loops is that of the check
 pub returns-in_err-arranged : goal.returns-in_err-arranged
@@ -39,7 +39,7 @@ returns-in_err-arranged c =
     let read = c.in_ok-contents.ensures in
     let p = err_from_is_err_and c.from_residual-in_err-arranged.result c.from_residual-in_err-arranged.ensures.1 in
     rw (p.1, p.2)
-    (not_accepted a.edition s a.horizon a.listing.now c.in_ok-horizon_answer.ensures c.in_err-arranged.field-0.0
+    (refusal_told a.edition s a.horizon a.listing.now (in_range a.horizon c.in_ok-horizon_answer.ensures) c.in_err-arranged.field-0.0
     (loops_checked a.edition s read.0 ∙ sym (c.in_err-arranged.ensures S (rw c.listed.ensures (network_held S _ read.1.held))).answered))
 
 pub run_accepted-requires : goal.run_accepted-requires
@@ -50,7 +50,7 @@ run_accepted-requires c =
     let read = c.in_ok-contents.ensures in
     let arranged = c.in_ok-arranged.ensures S (rw c.listed.ensures (network_held S _ read.1.held)) in
     let ok : checked a.edition s ≡ finished 0 = loops_checked a.edition s read.0 ∙ sym arranged.answered in
-    let ticks = within a.horizon c.in_ok-horizon_answer.ensures in
+    let ticks = within a.horizon (in_range a.horizon c.in_ok-horizon_answer.ensures) in
     let contents = c.in_ok-contents.contents in
     let same = sym (held_is S contents read.1.held) in (
       refl,
@@ -70,5 +70,5 @@ returns c =
     let read = c.in_ok-contents.ensures in
     let arranged = c.in_ok-arranged.ensures S (rw c.listed.ensures (network_held S _ read.1.held)) in
     let done = c.run_accepted in
-    accepted_leaves a.edition s a.horizon a.listing.now c.in_ok-horizon_answer.ensures (loops_checked a.edition s read.0 ∙ sym arranged.answered)
+    accepted_leaves a.edition s a.horizon a.listing.now (in_range a.horizon c.in_ok-horizon_answer.ensures) (loops_checked a.edition s read.0 ∙ sym arranged.answered)
     (subst (λ T. Leaves (ran_sheet T a.horizon (length a.listing.now)) a.listing.now (answer_in done.result) done.new.listing) (held_is S _ read.1.held) done.ensures)

@@ -19,7 +19,7 @@ returns c =
     let g = c.give_due.ensures in
     let still = given-kept rows b.present.values (drive_tick n.drive.now c.args.t b.present.values) b.present.kept
     (λ j l. drive_other n.drive.now c.args.t b.present.values (driven_at rows j) (λ i h e. p.apart i j h l (e ∙ ap (λ m. m.output) (sym (module_at rows j))))) in
-    let w = worked (loaded_in n) n.horizon c.args.t (settled rows b.present) b.ahead.last b.ahead.pending (length_modules rows) refl (rw (d.1, still) at g.0) g.1 c.settle_all.ensures.0 c.schedule_all.ensures.0 in
+    let w = worked (loaded_in n) n.horizon c.args.t (settled rows b.present) b.ahead.last b.ahead.pending.kept (length_modules rows) refl (rw (d.1, still) at g.0) g.1 c.settle_all.ensures.0 c.schedule_all.ensures.0 in
     record {
       values_worked = w.0;
       given_worked = w.1;

@@ -6,4 +6,4 @@ use Rattle.listing.proofs.Listing.end_all.Goals as goal
 pub end_last-requires : goal.end_last-requires
 end_last-requires c =
     let loop = c.loop-node.invariant in
-    rw (loop.same_length, ap (λ l. l.places) loop.rest) (place_known c.requires.2 c.from.result (omega arith))
+    rw (loop.same_length, ap (λ l. l.places) loop.rest) (place_known c.requires.1.2 c.from.result (omega arith))

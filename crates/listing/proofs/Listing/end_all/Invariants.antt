@@ -10,6 +10,6 @@ invariant-loop-node l = record {
   same_length : length l.self.bytes.now ≡ length l.initial.self.bytes.now;
   rest : l.self ≡ record l.initial.self { bytes = l.self.bytes };
   lent : l.self.bytes.ghost_name ≡ l.initial.self.bytes.ghost_name;
-  ended : (buffer : List ℕ) (records : List Record) → Holding buffer records l.initial.self
+  ended : (buffer : List ℕ) (records : List Record) (n : ℕ) → Holding buffer records (record l.initial.self { written = n })
       → l.self.bytes.now ≡ buffer_after (with_ends (ends_for l.watched l.end l.node-index) records) buffer;
 }

@@ -14,7 +14,7 @@ returns-in-Err-Full-clause-run g c =
     let G = c.loop-t.invariant.between in
     let listed = rw c.in-Err-Full.field-0-is at (c.in-Err-Full.ensures.told _ _ G.holding) in
     let held = full_holding c.requires G c.loop-t-test.true c.work.ensures listed in
-    told_full c.requires G c.loop-t-test.true c.work.ensures listed _ (ap (λ l. l.written) c.end_all.ensures.rest) _ (c.end_all.ensures.ended _ _ held)
+    told_full c.requires G c.loop-t-test.true c.work.ensures listed _ (ap (λ l. l.written) c.end_all.ensures.rest) _ (c.end_all.ensures.ended _ _ _ held)
 
 pub overflow_cast-result-in-Err-Crowded : goal.overflow_cast-result-in-Err-Crowded
 overflow_cast-result-in-Err-Crowded g c =
@@ -28,7 +28,7 @@ returns-in-Err-Crowded-clause-run g c =
     let ended = c.end_all-in-Err-Crowded.ensures in
     let listed = rw c.in-Err-Crowded.field-0-is at (c.in-Err-Crowded.ensures.told _ _ G.holding) in
     let held = all_held c.requires G c.loop-t-test.true c.work.ensures listed.0 listed.2 in
-    told_crowded c.requires G c.loop-t-test.true c.work.ensures listed.0 listed.2 (rw c.count-due.ensures at listed.1) _ (ap (λ l. l.written) ended.rest) _ (ended.ended _ _ held)
+    told_crowded c.requires G c.loop-t-test.true c.work.ensures listed.0 listed.2 (rw c.count-due.ensures at listed.1) _ (ap (λ l. l.written) ended.rest) _ (ended.ended _ _ _ held)
 
 pub loop-t-preserved : goal.loop-t-preserved
 loop-t-preserved g c =
@@ -39,8 +39,11 @@ loop-t-preserved g c =
       between = rw add-one (told_next c.requires G c.loop-t-test.true c.work.ensures listed.0 listed.2 (rw c.count-due.ensures at listed.1));
     }
 
+pub end_all-requires-2 : goal.end_all-requires-2
+end_all-requires-2 g c = (c.loop-t.listing.written, (_, _, c.loop-t.invariant.between.holding))
+
 pub returns-clause-run : goal.returns-clause-run
 returns-clause-run g c =
     let G = c.loop-t.invariant.between in
     let ended = c.end_all-2.ensures in
-    reached c.requires G c.loop-t-test.false _ (ap (λ l. l.written) ended.rest) _ (ended.ended _ _ G.holding)
+    reached c.requires G c.loop-t-test.false _ (ap (λ l. l.written) ended.rest) _ (ended.ended _ _ _ G.holding)

@@ -9,4 +9,4 @@ use Rattle.tick.proofs.delayed.schedule_all.Given as goal
 abbrev pub invariant-loop-k : goal.invariant-loop-k
 invariant-loop-k l =
     (scheduled l.ahead ≡ schedule arrangement (modules_in l.network.rows.now) l.t l.network.horizon l.present.values l.k (scheduled l.initial.ahead))
-    × (arrangement.count l.ahead.pending ≤ arrangement.count l.initial.ahead.pending + l.k)
+    × (arrangement.count l.ahead.pending.kept ≤ arrangement.count l.initial.ahead.pending.kept + l.k)

@@ -3,7 +3,7 @@ use Rattle.tick.proofs.Given.{none-given, one_given, still_given}
 use Rattle.tick.proofs.due.give_due.Goals as goal
 
 pub loop-k-init : goal.loop-k-init
-loop-k-init c = rw c.from_start-scan.ensures (none-given c.args.network c.args.t c.args.pending.now c.args.present.now c.requires.1)
+loop-k-init c = rw c.from_start-scan.ensures (none-given c.args.network c.args.t c.args.pending.now.kept c.args.present.now c.requires.1)
 
 pub loop-k-preserved-in-Due : goal.loop-k-preserved-in-Due
 loop-k-preserved-in-Due c = one_given c.loop-k.invariant _ c.pass_next-met.ensures c.in-Due.is c.give.ensures.0 c.give.ensures.1
