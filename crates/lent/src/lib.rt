@@ -24,7 +24,7 @@ fn print(text: &mut [u8], at: usize, byte: u8) -> usize
 }
 
 // Prints all of the bytes, one after the other: a copy of them at once asks the C library for memmove, which the header does not name. The place is a
-// local of the loop: behind the writer it was read and written anew for each byte, which took a sentence up to 2.7 times as long.
+// local of the loop: behind the writer it was read and written anew for each byte, and a sentence took about twice as long.
 fn print_all(text: &mut [u8], at: usize, bytes: &[u8]) -> usize
     ensures { Prints bytes.now text.old at text.new result }
 {

@@ -13,7 +13,7 @@ abbrev pub pending_room : ℕ
 pending_room = places
 
 -- what is pending, and the numbers past it, up to the end of the array: nothing is said of these, and they are here so that the value gives its
--- fields back, which `Copy` asks
+-- fields back, which `Copy` asks for
 pub record Stored : Type 0 where
   pub kept : arrangement.Kept
   pub past : List ℕ

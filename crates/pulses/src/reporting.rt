@@ -26,7 +26,8 @@ pub(crate) fn room_answer(pulses: u32, records: u32, bytes: usize) -> Result<u32
     Ok(pulses)
 }
 
-// Puts a number of four bytes, the low byte first. Where there is room for all of them they are written at once.
+// Puts a number of four bytes, the low byte first. Where there is room for all of them they are written at once: byte by byte a call whose records are
+// all pulses took a quarter longer.
 fn put_long(out: &mut Writer, n: u32)
     ensures { Puts (long_bytes n) out.old out.new }
 {

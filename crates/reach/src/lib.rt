@@ -25,8 +25,8 @@ fn clear_row(row: &mut [bool; NODES])
     *row = [false; NODES];
 }
 
-// No node leads anywhere, whatever the matrix held. Row by row: `*reach = UNLINKED` made a second matrix on the stack and copied it, which took a
-// check of a small sheet a third more time.
+// No node leads anywhere, whatever the matrix held. Row by row: `*reach = UNLINKED` made a second matrix on the stack and copied it, and a
+// check of a small sheet took three times as long.
 fn clear(reach: &mut Matrix)
     ensures { (u : ℕ) → u < most_nodes → get_or reach.new u [] ≡ replicate most_nodes false }
 {

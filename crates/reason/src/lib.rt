@@ -53,7 +53,7 @@ fn put_unlisted(out: &mut Writer, number: u32)
 }
 
 // Document 02's table: what is wrong by refusals 1 to 26, in order, and the sort of the place. It stands in three parts: a constant array that holds
-// references is made anew on the stack where it is read, and as one array of all rows it took a third of a sentence's time.
+// references is made anew on the stack where it is read, and as one array of all rows a sentence took up to a quarter more time.
 const FIRST_PHRASES: [(&[u8], Sort); 9] = [
     (b"the horizon is not from 1 to 1,000,000 ticks", Sort::Bare),
     (

@@ -36,7 +36,7 @@ loaded_in network =
 
 -- what a tick's work rests on, beside what each network and all that is carried has
 pub record Workable (network : Network) (t : ℕ) (before : Carried) : Type 0 where
-  -- the starts are those of the modules' kinds, as the state before the tick has it
+  -- the starts are those of the modules' kinds, as the state before the tick has them
   pub starts_kept : StartsOf (modules_in network.rows.now) (starts_in network.rows.now)
   -- no event drives a node that a module drives
   pub apart : (e k : ℕ) → e < length network.drive.now → k < length network.rows.now

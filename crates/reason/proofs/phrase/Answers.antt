@@ -1,6 +1,6 @@
 -- `reason::phrase` meets its contract: each part of the table in the code has what the definitions list there, row by row, as antt computes.
 -- Assumes nothing.
-use Rattle.std.proofs.Common.{ℕ, List, Bor, [], ◌≡◌, ◌≤◌, refl, length, get_or, map, take, drop, ◌++◌, ◌+◌, ◌-◌, ◌<◌, suc, sym, ap, ◌∙◌, rules, arith}
+use Rattle.std.proofs.Common.{ℕ, List, Bor, [], ◌≡◌, ◌≤◌, length, get_or, map, take, drop, ◌++◌, ◌+◌, ◌-◌, ◌<◌, suc, sym, ap, ◌∙◌, rules, arith}
 use Rattle.std.proofs.lemmas.List.{get_or-map, get_or-take, get_or-drop, length-map}
 use Rattle.lent.specs.Letters.{letters}
 use Rattle.reason.specs.declared.Sort.{Sort}
